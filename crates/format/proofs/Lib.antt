@@ -1,0 +1,5 @@
+pub mod Bits
+pub mod Versions
+pub mod Refusals
+pub mod Files
+pub mod Cases

@@ -1,0 +1,5 @@
+pub mod Version
+pub mod FrameId
+pub mod Event
+pub mod File
+pub mod Refusal

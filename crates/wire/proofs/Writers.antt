@@ -1,0 +1,131 @@
+-- The laws of writers: what is written, one after the other, what is left to write, and loops over a range.
+-- Assumes nothing.
+use mathlib.Core.Path.{_≡_, refl, sym, ap, _∙_}
+use mathlib.Core.Bool.{Bool, true, false}
+use mathlib.Core.List.{List, [], _∷_, _++_}
+use Prim.Native.Nat.{ℕ, zero, suc, _+_, _-_, _*_, _/_, _%_, _≤_, _<_}
+use native.Mathlib.Nat.{add-zero, add-assoc, div-one, sub-zero, sub-eq-zero-of-le}
+use native.Mathlib.Numerals.{add-one, add-two, add-three}
+use native.Mathlib.Omega.{arith}
+use lib.ListN.{length, set, length-append}
+use Rattle.wire.specs.Wire.{be, splice, ranged, keep, Room, Wrote}
+use Rattle.wire.proofs.Laws.{splice-nil, length-splice, splice-append, length-be}
+
+module _ {before middle after : List ℕ} {at mid next : ℕ} {xs ys : List ℕ} where
+  -- one writer after another
+  pub wrote-then : Wrote before middle at mid xs → Wrote middle after mid next ys → Wrote before after at next (xs ++ ys)
+  wrote-then p q = record {
+    next-is = simp (length-append, q .next-is, p .next-is, add-assoc);
+    after-is = rw (q .after-is, p .after-is, p .next-is, ← splice-append);
+  }
+
+pub wrote-as : {before after : List ℕ} {at next : ℕ} {xs ys : List ℕ} → xs ≡ ys → Wrote before after at next xs → Wrote before after at next ys
+wrote-as e w = rw e at w
+
+pub wrote-width : {before after : List ℕ} {at next w k : ℕ} (v : ℕ) → w ≡ k → Wrote before after at next (be k v) → Wrote before after at next (be w v)
+wrote-width v e x = rw (← e) at x
+
+pub wrote-length : {before after : List ℕ} {at next : ℕ} {bytes : List ℕ} → Wrote before after at next bytes → length after ≡ length before
+wrote-length {before} {at = at} {bytes = bytes} w = ap length (w .after-is) ∙ length-splice before at bytes
+
+-- room for two parts is room for the first, and, once that is written, for the second
+pub room-first : {out : List ℕ} {at : ℕ} {xs : List ℕ} (ys : List ℕ) → Room out at (xs ++ ys) → Room out at xs
+room-first {xs = xs} ys r = record { fits = omega (arith, r .fits, length-append xs ys) }
+
+pub room-second : {out after : List ℕ} {at next : ℕ} {xs ys : List ℕ} → Room out at (xs ++ ys) → Wrote out after at next xs → Room after next ys
+room-second {xs = xs} {ys = ys} r w = record { fits = omega (arith, r .fits, length-append xs ys, w .next-is, wrote-length w) }
+
+-- a part that is written or not, by a test
+pub room-kept : {out : List ℕ} {at : ℕ} (on : Bool) (xs : List ℕ) → on ≡ true → Room out at (keep on xs) → Room out at xs
+unfolding keep
+room-kept on xs e r = rw e at r
+
+pub wrote-kept : {out after : List ℕ} {at next : ℕ} (on : Bool) (xs : List ℕ) → on ≡ true → Wrote out after at next xs → Wrote out after at next (keep on xs)
+unfolding keep
+wrote-kept on xs e w = rw e w
+
+pub wrote-none : (out : List ℕ) (at : ℕ) (on : Bool) (xs : List ℕ) → on ≡ false → Wrote out out at at (keep on xs)
+unfolding keep splice
+wrote-none out at on xs e = rw e (record { next-is = sym (add-zero at); after-is = refl })
+
+pub wrote-byte : (xs : List ℕ) (at b : ℕ) → Wrote xs (set xs at b) at (at + 1) (b ∷ [])
+unfolding splice
+wrote-byte xs at b = record { next-is = refl; after-is = refl }
+
+-- whoever writes `rest` over `now` from p on has then written `all` over `first` from at on
+pub record Left (first : List ℕ) (at : ℕ) (all now : List ℕ) (p : ℕ) (rest : List ℕ) : Type 0 where
+  pub place : p + length rest ≡ at + length all
+  pub same : length now ≡ length first
+  pub left : splice now p rest ≡ splice first at all
+
+pub left-start : {first all : List ℕ} {at : ℕ} → Left first at all first at all
+left-start = record { place = refl; same = refl; left = refl }
+
+module _ {first all now : List ℕ} {at p : ℕ} where
+  -- a turn: the first part of what is left is written
+  pub left-step : {x rest more after : List ℕ} {next : ℕ} → Left first at all now p more → more ≡ x ++ rest → Wrote now after p next x → Left first at all after next rest
+  left-step {x} {rest} l e w = record {
+    place = rw (w .next-is, add-assoc, ← length-append, ← e) (l .place);
+    same = wrote-length w ∙ l .same;
+    left = rw (w .after-is, w .next-is, ← splice-append, ← e) (l .left);
+  }
+
+  -- room for all is room for the first part of what is left
+  pub left-room : {x more : List ℕ} (rest : List ℕ) → Left first at all now p more → more ≡ x ++ rest → Room first at all → Room now p x
+  left-room {x} rest l e r = let k = ap length e ∙ length-append x rest in record { fits = omega (arith, l .place, l .same, r .fits, k) }
+
+  pub left-done : {rest : List ℕ} → Left first at all now p rest → rest ≡ [] → Wrote first now at p all
+  left-done l e = record {
+    next-is = sym (add-zero p) ∙ rw e at (l .place);
+    after-is = sym (splice-nil now p) ∙ rw e at (l .left);
+  }
+
+-- bytes stored one by one: two and four of them
+pub wrote-2 : (xs : List ℕ) (at v : ℕ) → Wrote xs (set (set xs at (v / 256 % 256)) (at + 1) (v % 256)) at (at + 2) (be 2 v)
+unfolding splice be
+wrote-2 xs at v = record { next-is = refl; after-is = rw (div-one v, add-one) }
+
+pub wrote-4 : (xs : List ℕ) (at v : ℕ)
+    → Wrote xs (set (set (set (set xs at (v / 16777216 % 256)) (at + 1) (v / 65536 % 256)) (at + 2) (v / 256 % 256)) (at + 3) (v % 256)) at (at + 4) (be 4 v)
+unfolding splice be
+wrote-4 xs at v = record { next-is = refl; after-is = rw (div-one v, add-one, add-two, add-three) }
+
+pub room-be : {out : List ℕ} {at : ℕ} (w v : ℕ) → Room out at (be w v) → at + w ≤ length out
+room-be w v r = rw length-be at (r .fits)
+
+-- a byte is its number's lowest, and a number's only byte
+be-one : (v : ℕ) → be 1 v ≡ v % 256 ∷ []
+unfolding be
+be-one v = rw div-one
+
+pub room-one : {out : List ℕ} {at w : ℕ} (v : ℕ) → w ≡ 1 → Room out at (be w v) → Room out at (v % 256 ∷ [])
+room-one v e r = rw (e, be-one v) at r
+
+pub wrote-one : {before after : List ℕ} {at next w : ℕ} (v : ℕ) → w ≡ 1 → Wrote before after at next (v % 256 ∷ []) → Wrote before after at next (be w v)
+wrote-one v e x = rw (e, be-one v) x
+
+pub room-width : {out : List ℕ} {at w k : ℕ} (v : ℕ) → w ≡ k → Room out at (be w v) → Room out at (be k v)
+room-width v e r = rw e at r
+
+-- ---- a loop from i to b: one turn, its end, and room for a turn
+module _ (f : ℕ → List ℕ) (i b : ℕ) where
+  ranged-step : i < b → ranged f i (b - i) ≡ f i ++ ranged f (i + 1) (b - (i + 1))
+  unfolding ranged
+  ranged-step h = let e : b - i ≡ suc (b - (i + 1)) = omega arith in rw e
+
+  ranged-done : b ≤ i → ranged f i (b - i) ≡ []
+  unfolding ranged
+  ranged-done h = rw (sub-eq-zero-of-le h)
+
+  module _ {first all now : List ℕ} {at p : ℕ} where
+    pub range-room : Left first at all now p (ranged f i (b - i)) → i < b → Room first at all → Room now p (f i)
+    range-room l h r = left-room (ranged f (i + 1) (b - (i + 1))) l (ranged-step h) r
+
+    pub range-step : {after : List ℕ} {next : ℕ} → Left first at all now p (ranged f i (b - i)) → i < b → Wrote now after p next (f i) → Left first at all after next (ranged f (i + 1) (b - (i + 1)))
+    range-step l h w = left-step l (ranged-step h) w
+
+    pub range-done : Left first at all now p (ranged f i (b - i)) → b ≤ i → Wrote first now at p all
+    range-done l h = left-done l (ranged-done h)
+
+pub range-start : (f : ℕ → List ℕ) (n : ℕ) {first : List ℕ} {at : ℕ} → Left first at (ranged f 0 n) first at (ranged f 0 (n - 0))
+range-start f n = rw (sub-zero n) left-start
