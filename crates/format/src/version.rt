@@ -2,6 +2,7 @@
 ghost use mathlib.Core.Path.{_≡_};
 ghost use Rattle.format.specs.Version.{version, gteOf, acceptedOf};
 
+#[repr(C)]
 pub struct Version {
     pub major: u8,
     pub minor: u8,

@@ -22,6 +22,9 @@ module _ {before middle after : List ℕ} {at mid next : ℕ} {xs ys : List ℕ}
 pub wrote-as : {before after : List ℕ} {at next : ℕ} {xs ys : List ℕ} → xs ≡ ys → Wrote before after at next xs → Wrote before after at next ys
 wrote-as e w = rw e at w
 
+pub room-as : {out : List ℕ} {at : ℕ} {xs ys : List ℕ} → xs ≡ ys → Room out at xs → Room out at ys
+room-as e r = rw e at r
+
 pub wrote-width : {before after : List ℕ} {at next w k : ℕ} (v : ℕ) → w ≡ k → Wrote before after at next (be k v) → Wrote before after at next (be w v)
 wrote-width v e x = rw (← e) at x
 

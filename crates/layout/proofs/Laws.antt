@@ -1,0 +1,204 @@
+-- The table's laws: the code's list of numbers is the definition's table, flattened, and a family's columns stand at its place in it.
+-- Assumes nothing.
+use mathlib.Core.Path.{_≡_, refl, sym, ap, _∙_}
+use mathlib.Core.Bool.{Bool, true, false, cond}
+use mathlib.Core.List.{List, [], _∷_, _++_, map, append-assoc, append-nil}
+use Prim.Native.Nat.{ℕ, _+_, _*_, _/_, _%_, _≤_, _<_}
+use native.Mathlib.Nat.{add-zero, zero-add, add-assoc, add-suc, suc-add, mul-suc, le-antisymm}
+use native.Mathlib.Numerals.{add-one, add-two, add-three}
+use native.Mathlib.Omega.{arith}
+use lib.Dec.{T, leb, leb→le, lit≤}
+use lib.ListN.{length, take, drop, set, getD, drop-of-length-le, List·getD-map}
+use lib.Seq.{getD-take, getD-drop, drop-cons, take-suc-set, length-take-le}
+use borrow.Author.Tests.{lt-ltb, le-ltb, eq-eqb, ne-eqb}
+use Rattle.format.specs.declared.version.Version.{Version}
+use Rattle.format.specs.Version.{gteOf}
+use Rattle.layout.specs.declared.columns.Column.{Column}
+use Rattle.layout.specs.declared.columns.Family.{Family}
+use Rattle.layout.specs.declared.columns.Family.the-variants.{Pre, Post, FrameStart, Item, FrameEnd, FodPlatform, DreamlandWhispy, StadiumTransformation}
+use Rattle.layout.specs.Columns.{col, columnsOf, chosen, since, sum, widthsOf, Narrow}
+use Rattle.layout.specs.Table.{table, firstOf, countOf}
+use Rattle.layout.specs.Payloads.{headSize}
+
+-- a column as a number of the code's table, and the column that the code makes of a number
+unfoldable pub packed : List Column → List ℕ
+packed [] = []
+packed (c ∷ cs) = (c .width * 1000000 + c .major * 1000 + c .minor) ∷ packed cs
+
+abbrev pub unpack : ℕ → Column
+unpack x = col (x / 1000000 % 256) (x / 1000 % 1000 % 256) (x % 1000 % 256)
+
+-- the code's table is the definition's
+unpacked : map unpack (packed table) ≡ table
+unfolding packed table columnsOf
+unpacked = refl
+
+pub entry-is : (i : ℕ) → unpack (getD (packed table) i 0) ≡ getD table i (col 0 0 0)
+entry-is i = sym (List·getD-map unpack (packed table) i 0) ∙ ap (λ (l : List Column). getD l i (col 0 0 0)) unpacked
+
+-- a family's columns are a part of the table
+family : (f : Family) → take (countOf f) (drop (firstOf f) table) ≡ columnsOf f
+unfolding table columnsOf
+family Pre = refl
+family Post = refl
+family FrameStart = refl
+family Item = refl
+family FrameEnd = refl
+family FodPlatform = refl
+family DreamlandWhispy = refl
+family StadiumTransformation = refl
+
+pub fits : (f : Family) → firstOf f + countOf f ≤ 75
+fits Pre = lit≤ tt
+fits Post = lit≤ tt
+fits FrameStart = lit≤ tt
+fits Item = lit≤ tt
+fits FrameEnd = lit≤ tt
+fits FodPlatform = lit≤ tt
+fits DreamlandWhispy = lit≤ tt
+fits StadiumTransformation = lit≤ tt
+
+pub count-is : (f : Family) → length (columnsOf f) ≡ countOf f
+unfolding columnsOf
+count-is Pre = refl
+count-is Post = refl
+count-is FrameStart = refl
+count-is Item = refl
+count-is FrameEnd = refl
+count-is FodPlatform = refl
+count-is DreamlandWhispy = refl
+count-is StadiumTransformation = refl
+
+pub family-at : (f : Family) (i : ℕ) → i < countOf f → getD table (firstOf f + i) (col 0 0 0) ≡ getD (columnsOf f) i (col 0 0 0)
+family-at f i h =
+    sym (getD-drop (firstOf f) table i (col 0 0 0))
+    ∙ sym (getD-take (countOf f) (drop (firstOf f) table) i (col 0 0 0) h)
+    ∙ ap (λ (l : List Column). getD l i (col 0 0 0)) (family f)
+
+pub small : (f : Family) → countOf f ≤ 32
+small Pre = lit≤ tt
+small Post = lit≤ tt
+small FrameStart = lit≤ tt
+small Item = lit≤ tt
+small FrameEnd = lit≤ tt
+small FodPlatform = lit≤ tt
+small DreamlandWhispy = lit≤ tt
+small StadiumTransformation = lit≤ tt
+
+-- ---- a loop that collects what is chosen of a list into an array: ws has what was chosen before element i, in its first n places
+module _ {A : Type 0} (d : A) (p : A → Bool) (f : A → ℕ) (xs : List A) where
+  unfoldable pub Collected : ℕ → ℕ → List ℕ → Type 0
+  Collected i n ws = take n ws ++ chosen p f (drop i xs) ≡ chosen p f xs
+
+  pub collect-start : (ws : List ℕ) → Collected 0 0 ws
+  unfolding Collected
+  collect-start ws = refl
+
+  -- a turn, with the value y and the test t that the code found for element i
+  pub collect-take : (i n : ℕ) (ws : List ℕ) (y : ℕ) (t : Bool) → i < length xs → n < length ws → y ≡ f (getD xs i d) → t ≡ p (getD xs i d) → t ≡ true
+      → Collected i n ws → Collected (i + 1) (n + 1) (set ws n y)
+  unfolding Collected chosen
+  collect-take i n ws y t h k v q g e =
+      let g′ : p (getD xs i d) ≡ true = sym q ∙ g in
+      rw (add-one i, add-one n, take-suc-set ws n y k, append-assoc, v)
+      (rw (drop-cons xs i d h, g′) at e)
+
+  pub collect-skip : (i n : ℕ) (ws : List ℕ) (t : Bool) → i < length xs → t ≡ p (getD xs i d) → t ≡ false → Collected i n ws → Collected (i + 1) n ws
+  unfolding Collected chosen
+  collect-skip i n ws t h q g e =
+      let g′ : p (getD xs i d) ≡ false = sym q ∙ g in
+      rw (add-one i) (rw (drop-cons xs i d h, g′) at e)
+
+  pub collect-done : (i n : ℕ) (ws : List ℕ) → length xs ≤ i → Collected i n ws → take n ws ≡ chosen p f xs
+  unfolding Collected chosen
+  collect-done i n ws h e = sym (append-nil (take n ws)) ∙ rw (drop-of-length-le xs h) at e
+
+sum-append : (xs ys : List ℕ) → sum (xs ++ ys) ≡ sum xs + sum ys
+unfolding sum
+sum-append [] ys = rw zero-add
+sum-append (x ∷ xs) ys = rw (add-assoc, sum-append xs ys)
+
+pub sum-take : (ws : List ℕ) (n w b : ℕ) → n < length ws → b ≡ sum (take n ws) → b + w ≡ sum (take (n + 1) (set ws n w))
+unfolding sum
+sum-take ws n w b h e = rw (add-one n, take-suc-set ws n w h, sum-append, e, add-zero)
+
+-- an arm of a match on x: what holds of the arm's constructor k holds of x
+pub arm : {A B : Type 0} (f : A → B) {x k : A} {r : B} → x ≡ k → r ≡ f k → r ≡ f x
+arm f e h = h ∙ sym (ap f e)
+
+-- two tests, and what their conjunction tells
+abbrev pub both : Bool → Bool → Bool
+both true b = b
+both false b = false
+
+pub both-left : (a b : Bool) → T (both a b) → T a
+both-left true b t = tt
+both-left false b t = t
+
+pub both-right : (a b : Bool) → T (both a b) → T b
+both-right true b t = t
+both-right false b t = absurd t
+
+pub both-of : (a b : Bool) → T a → T b → T (both a b)
+both-of true b t u = u
+both-of false b t u = t
+
+-- ---- the widths: none is above 4, by one test over the whole table
+
+abbrev slim : List Column → Bool
+slim [] = true
+slim (c ∷ cs) = both (leb (c .width) 4) (slim cs)
+
+narrow-since : (v : Version) (cs : List Column) → T (slim cs) → Narrow (since v cs)
+unfolding chosen Narrow
+narrow-since v [] t = tt
+narrow-since v (c ∷ cs) t =
+    go (gteOf v (c .major) (c .minor)) (leb→le (c .width) 4 (both-left (leb (c .width) 4) (slim cs) t)) (narrow-since v cs (both-right (leb (c .width) 4) (slim cs) t))
+  where
+    go : (b : Bool) → c .width ≤ 4 → Narrow (since v cs) → Narrow (cond b (c .width ∷ since v cs) (since v cs))
+    go true h n = (h, n)
+    go false h n = n
+
+slim-family : (f : Family) → T (slim (columnsOf f))
+unfolding columnsOf
+slim-family Pre = tt
+slim-family Post = tt
+slim-family FrameStart = tt
+slim-family Item = tt
+slim-family FrameEnd = tt
+slim-family FodPlatform = tt
+slim-family DreamlandWhispy = tt
+slim-family StadiumTransformation = tt
+
+pub narrow-of : (f : Family) (v : Version) → Narrow (widthsOf f v)
+narrow-of f v = narrow-since v (columnsOf f) (slim-family f)
+
+pub length-chosen : {A B : Type 0} (p : A → Bool) (f : A → B) (xs : List A) → length (chosen p f xs) ≤ length xs
+unfolding chosen
+length-chosen p f [] = lit≤ tt
+length-chosen p f (x ∷ xs) = go (p x) refl (length-chosen p f xs)
+  where
+    go : (b : Bool) → p x ≡ b → length (chosen p f xs) ≤ length xs → length (chosen p f (x ∷ xs)) ≤ length (x ∷ xs)
+    go true e ih = rw e (omega arith)
+    go false e ih = rw e (omega arith)
+
+-- a record has at most 32 columns
+pub few-widths : (f : Family) (v : Version) → length (widthsOf f v) ≤ 32
+few-widths f v =
+    let h = length-chosen (λ (c : Column). gteOf v (c .major) (c .minor)) (λ (c : Column). c .width) (columnsOf f) in
+    omega (arith, count-is f, small f)
+
+pub sum-narrow : (ws : List ℕ) → Narrow ws → sum ws ≤ 4 * length ws
+unfolding Narrow sum
+sum-narrow [] n = lit≤ tt
+sum-narrow (w ∷ ws) n = omega (arith, n .0, sum-narrow ws (n .1))
+
+pub head-small : (f : Family) → headSize f ≤ 6
+head-small Pre = lit≤ tt
+head-small Post = lit≤ tt
+head-small FrameStart = lit≤ tt
+head-small Item = lit≤ tt
+head-small FrameEnd = lit≤ tt
+head-small FodPlatform = lit≤ tt
+head-small DreamlandWhispy = lit≤ tt
+head-small StadiumTransformation = lit≤ tt

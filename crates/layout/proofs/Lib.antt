@@ -1,0 +1,5 @@
+pub mod Laws
+pub mod Prefix
+pub mod Runs
+pub mod Entries
+pub mod Sizes

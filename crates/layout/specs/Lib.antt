@@ -1,0 +1,4 @@
+pub mod Columns
+pub mod Table
+pub mod Plan
+pub mod Payloads
