@@ -113,7 +113,7 @@ module _ {A : Type 0} (d : A) (p : A → Bool) (f : A → ℕ) (xs : List A) whe
   unfolding Collected chosen
   collect-done i n ws h e = sym (append-nil (take n ws)) ∙ rw (drop-of-length-le xs h) at e
 
-sum-append : (xs ys : List ℕ) → sum (xs ++ ys) ≡ sum xs + sum ys
+pub sum-append : (xs ys : List ℕ) → sum (xs ++ ys) ≡ sum xs + sum ys
 unfolding sum
 sum-append [] ys = rw zero-add
 sum-append (x ∷ xs) ys = rw (add-assoc, sum-append xs ys)
