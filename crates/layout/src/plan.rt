@@ -10,13 +10,13 @@ use super::columns::nth;
 use format::version::Version;
 
 // The columns of a version's record: how many, their bytes, and the width of each.
-struct Listing {
-    count: usize,
-    bytes: usize,
-    widths: [u8; 32],
+pub struct Listing {
+    pub count: usize,
+    pub bytes: usize,
+    pub widths: [u8; 32],
 }
 
-fn widths(f: Family, v: Version) -> Listing
+pub fn widths(f: Family, v: Version) -> Listing
     ensures { λ r. ⌜ Widths f v (r .count) (r .bytes) (r .widths) ⌝ }
 {
     let count = f.count();

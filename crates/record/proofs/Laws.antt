@@ -1,155 +1,176 @@
 -- The laws of records: rows of cells as bytes and back, and the room that they take.
 -- Assumes nothing.
-use mathlib.Core.Path.{_≡_, refl, sym, ap, _∙_}
+use mathlib.Core.Path.{_≡_, refl, sym, ap, ap₂, _∙_}
+use mathlib.Core.Bool.{Bool, true, false, cond}
 use mathlib.Core.Logic.{_⊎_, inl, inr}
-use mathlib.Core.List.{List, [], _∷_, _++_, append-assoc}
-use Prim.Native.Nat.{ℕ, zero, suc, _+_, _-_, _*_, _^_, _≤_, _<_}
-use native.Mathlib.Nat.{add-zero, zero-add, add-assoc, zero-mul, suc-mul, sub-eq-zero-of-le}
-use native.Mathlib.Numerals.{add-one}
+use mathlib.Core.List.{List, [], _∷_, _++_, append-assoc, append-nil}
+use Prim.Native.Nat.{ℕ, zero, suc, _+_, _-_, _*_, _≤_, _<_}
+use native.Mathlib.Nat.{add-zero, zero-mul, suc-mul}
+use native.Mathlib.Numerals.{add-one, sub-one}
 use native.Mathlib.Omega.{arith}
-use lib.ListN.{length, getD, set, take, drop, replicate, length-append, length-set, length-replicate, drop-of-length-le}
-use lib.Seq.{drop-cons, drop-drop, take-at, drop-at, set-getD}
-use Rattle.wire.specs.Wire.{be, number, part, keep, Room, Wrote}
+use lib.Dec.{lit≤}
+use lib.ListN.{length, getD, set, take, drop, length-append, length-set, drop-of-length-le}
+use lib.Seq.{drop-cons, drop-drop, take-length}
+use Rattle.wire.specs.Wire.{be, number, part, keep, Wrote}
+use Rattle.wire.proofs.Laws.{length-be}
+use Rattle.wire.proofs.Writers.{Behind, behind-start, behind-step}
 use Rattle.format.specs.File.{eventBytes}
-use Rattle.record.specs.declared.Head.{Head}
-use Rattle.wire.proofs.Laws.{length-be, number-be}
 use Rattle.layout.specs.Columns.{sum}
-use Rattle.layout.proofs.Laws.{sum-append}
-use Rattle.layout.specs.Plan.{expand}
-use Rattle.record.specs.Record.{cellsBytes, recordOf, filled, InStore, Fit}
+use Rattle.record.specs.declared.Head.{Head}
+use Rattle.record.specs.Record.{cellsBytes, playerBytes, headBytes, recordOf, filled, InStore}
 
 pub length-cells : (ws cells : List ℕ) (stride i : ℕ) → length (cellsBytes ws cells stride i) ≡ sum ws
 unfolding cellsBytes sum
 length-cells [] cells stride i = refl
 length-cells (w ∷ ws) cells stride i = simp (length-append, length-be, length-cells ws cells stride (i + stride))
 
--- ---- columns one after another: the first, and then the rest, further on
+-- ---- one column, by its number
+module _ (stride : ℕ) where
+  further : (i k : ℕ) → i + stride + k * stride ≡ i + suc k * stride
+  further i k = let e = suc-mul k stride in omega arith
 
-further : (i n stride : ℕ) → i + stride + n * stride ≡ i + suc n * stride
-further i n stride = let e = suc-mul n stride in omega arith
-
-pub cells-append : (xs ys cells : List ℕ) (stride i : ℕ) → cellsBytes (xs ++ ys) cells stride i ≡ cellsBytes xs cells stride i ++ cellsBytes ys cells stride (i + length xs * stride)
-unfolding cellsBytes
-cells-append [] ys cells stride i = rw (zero-mul, add-zero)
-cells-append (x ∷ xs) ys cells stride i =
-    rw (cells-append xs ys cells stride (i + stride), further i (length xs) stride) (sym (append-assoc (be x (getD cells i 0)) (cellsBytes xs cells stride (i + stride)) (cellsBytes ys cells stride (i + suc (length xs) * stride))))
-
-pub in-store-append : (xs ys : List ℕ) (len stride i : ℕ) → InStore (xs ++ ys) len stride i → InStore xs len stride i × InStore ys len stride (i + length xs * stride)
-unfolding InStore
-in-store-append [] ys len stride i h = (tt, rw (zero-mul, add-zero) h)
-in-store-append (x ∷ xs) ys len stride i h =
-    let (a, b) = in-store-append xs ys len stride (i + stride) (h .3) in
-    ((h .0, h .1, h .2, a), rw (further i (length xs) stride) at b)
-
--- the index after some columns: the same where there is none, else not far past the store
-in-store-span : (ws : List ℕ) (len stride i : ℕ) → InStore ws len stride i → (length ws * stride ≡ 0) ⊎ (i + length ws * stride < len + len)
-unfolding InStore
-in-store-span [] len stride i h = inl (zero-mul stride)
-in-store-span (w ∷ ws) len stride i h = inr (go (in-store-span ws len stride (i + stride) (h .3)))
-  where
-    go : (length ws * stride ≡ 0) ⊎ (i + stride + length ws * stride < len + len) → i + suc (length ws) * stride < len + len
-    go (inl z) = let e = suc-mul (length ws) stride in omega (arith, h .1, h .2)
-    go (inr l) = let e = suc-mul (length ws) stride in omega arith
-
--- ---- a loop over the n columns of a run, at column k: one turn, and the end
-module _ (n k w : ℕ) where
-  one-more : k < n → replicate (n - k) w ≡ w ∷ replicate (n - (k + 1)) w
-  one-more h = let e : n - k ≡ suc (n - (k + 1)) = omega arith in rw e
-
-  no-more : n ≤ k → replicate (n - k) w ≡ []
-  no-more h = rw (sub-eq-zero-of-le h)
-
-  pub run-step : (cells : List ℕ) (stride i : ℕ) → k < n
-      → cellsBytes (replicate (n - k) w) cells stride i ≡ be w (getD cells i 0) ++ cellsBytes (replicate (n - (k + 1)) w) cells stride (i + stride)
-  unfolding cellsBytes
-  run-step cells stride i h = rw (one-more h)
-
-  pub run-store : (len stride i : ℕ) → k < n → InStore (replicate (n - k) w) len stride i
-      → (w ≤ 4) × (i < len) × (stride ≤ len) × InStore (replicate (n - (k + 1)) w) len stride (i + stride)
+  -- where the k-th column's cell is, and that it is there
+  pub in-store-at : (ws : List ℕ) (len i k : ℕ) → InStore ws len stride i → k < length ws → (getD ws k 0 ≤ 4) × (i + k * stride < len) × (stride ≤ len)
   unfolding InStore
-  run-store len stride i h s = rw (one-more h) at s
+  in-store-at [] len i k s h = absurd (omega arith)
+  in-store-at (w ∷ ws) len i zero s h = (s .0, omega (arith, s .1, zero-mul stride), s .2)
+  in-store-at (w ∷ ws) len i (suc k) s h = rw (further i k) at (in-store-at ws len (i + stride) k (s .3) (omega arith))
 
-  pub run-done : (cells : List ℕ) (stride i : ℕ) → n ≤ k → cellsBytes (replicate (n - k) w) cells stride i ≡ []
+  -- what of a row's cells is left before the k-th, and the k-th
+  pub cells-snoc : (ws cells : List ℕ) (i k : ℕ) → k < length ws
+      → cellsBytes (take (suc k) ws) cells stride i ≡ cellsBytes (take k ws) cells stride i ++ be (getD ws k 0) (getD cells (i + k * stride) 0)
   unfolding cellsBytes
-  run-done cells stride i h = rw (no-more h)
+  cells-snoc [] cells i k h = absurd (omega arith)
+  cells-snoc (w ∷ ws) cells i zero h = rw (zero-mul, add-zero) (append-nil (be w (getD cells i 0)))
+  cells-snoc (w ∷ ws) cells i (suc k) h =
+      ap (λ (l : List ℕ). be w (getD cells i 0) ++ l) (cells-snoc ws cells (i + stride) k (omega arith))
+      ∙ rw (further i k) (sym (append-assoc (be w (getD cells i 0)) (cellsBytes (take k ws) cells stride (i + stride)) (be (getD ws k 0) (getD cells (i + suc k * stride) 0))))
 
--- ---- a loop over the runs of a row, at run j: what a turn knows, and the end
-module _ (ws ls : List ℕ) (j n w : ℕ) (h : j < length ws) (k : j < length ls) (en : n ≡ getD ls j 0) (ew : w ≡ getD ws j 0) where
-  expand-step : expand (drop j ws) (drop j ls) ≡ replicate n w ++ expand (drop (j + 1) ws) (drop (j + 1) ls)
-  unfolding expand
-  expand-step = rw (drop-cons ws j 0 h, drop-cons ls j 0 k, add-one j, en, ew)
+  -- the index after the last column, which is never read
+  pub in-store-end : (ws : List ℕ) (len i : ℕ) → InStore ws len stride i → (length ws * stride ≡ 0) ⊎ (i + length ws * stride < len + len)
+  unfolding InStore
+  in-store-end [] len i s = inl (zero-mul stride)
+  in-store-end (w ∷ ws) len i s = inr (go (in-store-end ws len (i + stride) (s .3)))
+    where
+      go : (length ws * stride ≡ 0) ⊎ (i + stride + length ws * stride < len + len) → i + suc (length ws) * stride < len + len
+      go (inl z) = let e = suc-mul (length ws) stride in omega (arith, s .1, s .2)
+      go (inr l) = let e = suc-mul (length ws) stride in omega arith
 
-  pub runs-cells : (cells : List ℕ) (stride i : ℕ)
-      → cellsBytes (expand (drop j ws) (drop j ls)) cells stride i ≡ cellsBytes (replicate n w) cells stride i ++ cellsBytes (expand (drop (j + 1) ws) (drop (j + 1) ls)) cells stride (i + n * stride)
-  runs-cells cells stride i =
-      ap (λ (x : List ℕ). cellsBytes x cells stride i) expand-step
-      ∙ cells-append (replicate n w) (expand (drop (j + 1) ws) (drop (j + 1) ls)) cells stride i
-      ∙ rw (length-replicate n w)
+  -- one column back from there
+  pub step-back : (i k : ℕ) → 0 < k → (stride ≤ i + k * stride) × (i + k * stride - stride ≡ i + (k - 1) * stride)
+  step-back i zero h = absurd (omega arith)
+  step-back i (suc k) h = rw sub-one (let e = suc-mul k stride in (omega arith, omega arith))
 
-  pub runs-store : (len stride i : ℕ) → InStore (expand (drop j ws) (drop j ls)) len stride i
-      → InStore (replicate n w) len stride i × InStore (expand (drop (j + 1) ws) (drop (j + 1) ls)) len stride (i + n * stride) × ((n * stride ≡ 0) ⊎ (i + n * stride < len + len))
-  runs-store len stride i s =
-      let (a, b) = in-store-append (replicate n w) (expand (drop (j + 1) ws) (drop (j + 1) ls)) len stride i (rw expand-step at s) in
-      (a, rw (length-replicate n w) at b, rw (length-replicate n w) at (in-store-span (replicate n w) len stride i a))
+pub sum-snoc : (ws : List ℕ) (k : ℕ) → k < length ws → sum (take (suc k) ws) ≡ sum (take k ws) + getD ws k 0
+unfolding sum
+sum-snoc [] k h = absurd (omega arith)
+sum-snoc (w ∷ ws) zero h = omega arith
+sum-snoc (w ∷ ws) (suc k) h = let e = sum-snoc ws k (omega arith) in omega arith
 
-pub runs-done : (ws ls cells : List ℕ) (j stride i : ℕ) → length ws ≤ j → cellsBytes (expand (drop j ws) (drop j ls)) cells stride i ≡ []
-unfolding expand cellsBytes
-runs-done ws ls cells j stride i h = rw (drop-of-length-le ws h)
+sum-take-le : (ws : List ℕ) (k : ℕ) → sum (take k ws) ≤ sum ws
+unfolding sum
+sum-take-le [] zero = lit≤ tt
+sum-take-le [] (suc k) = lit≤ tt
+sum-take-le (w ∷ ws) zero = omega arith
+sum-take-le (w ∷ ws) (suc k) = let h = sum-take-le ws k in omega arith
 
--- ---- a record, part by part
-module _ (h : Head) (ws cells : List ℕ) (stride i : ℕ) where
-  abbrev parts : List ℕ
-  parts = (h .code ∷ []) ++ (be 4 (h .id) ++ (keep (h .player) (h .port ∷ h .follower ∷ []) ++ cellsBytes ws cells stride i))
+-- what a turn of a loop from the last column to the first knows, with k columns left
+pub record Turn (ws cells : List ℕ) (stride first k : ℕ) : Type 0 where
+  pub narrow : getD ws (k - 1) 0 ≤ 4
+  pub inside : first + (k - 1) * stride < length cells
+  pub back : stride ≤ first + k * stride
+  pub index : first + k * stride - stride ≡ first + (k - 1) * stride
+  pub total : sum (take k ws) ≡ sum (take (k - 1) ws) + getD ws (k - 1) 0
+  pub within : sum (take k ws) ≤ sum ws
+  pub bytes : cellsBytes (take k ws) cells stride first ≡ cellsBytes (take (k - 1) ws) cells stride first ++ be (getD ws (k - 1) 0) (getD cells (first + (k - 1) * stride) 0)
 
-  pub room-record : {out : List ℕ} {at : ℕ} → Room out at (eventBytes (recordOf h ws cells stride i)) → Room out at parts
-  room-record r = r
+pub turn : (ws cells : List ℕ) (stride first k : ℕ) → InStore ws (length cells) stride first → 0 < k → k ≤ length ws → Turn ws cells stride first k
+turn ws cells stride first k s h l =
+    let e : k ≡ suc (k - 1) = omega arith in
+    let (narrow, inside, few) = in-store-at stride ws (length cells) first (k - 1) s (omega arith) in
+    let (back, index) = step-back stride first k h in
+    record {
+      narrow = narrow;
+      inside = inside;
+      back = back;
+      index = index;
+      total = ap (λ (j : ℕ). sum (take j ws)) e ∙ sum-snoc ws (k - 1) (omega arith);
+      within = sum-take-le ws k;
+      bytes = ap (λ (j : ℕ). cellsBytes (take j ws) cells stride first) e ∙ cells-snoc stride ws cells first (k - 1) (omega arith);
+    }
 
-  pub wrote-record : {before after : List ℕ} {at next : ℕ} → Wrote before after at next parts → Wrote before after at next (eventBytes (recordOf h ws cells stride i))
-  wrote-record w = w
+-- with no column left
+pub none-left : (ws cells : List ℕ) (stride first k : ℕ) → k ≤ 0 → (h : List ℕ) → h ++ cellsBytes (take k ws) cells stride first ≡ h
+unfolding cellsBytes
+none-left ws cells stride first zero l h = append-nil h
+none-left ws cells stride first (suc k) l h = absurd (omega arith)
+
+-- ---- a record: its head, and the cells after it
+
+pub head-length : (h : Head) (b : Bool) → h .player ≡ b → length (headBytes h) ≡ cond b 7 5
+unfolding headBytes keep
+head-length h true e = simp (e, length-append, length-be)
+head-length h false e = simp (e, length-append, length-be)
+
+pub head-room : (h : Head) → (5 ≤ length (headBytes h)) × (length (headBytes h) ≤ 7)
+head-room h = go (h .player) refl
+  where
+    go : (b : Bool) → h .player ≡ b → (5 ≤ length (headBytes h)) × (length (headBytes h) ≤ 7)
+    go true e = omega (arith, head-length h true e)
+    go false e = omega (arith, head-length h false e)
+
+pub record-parts : (h : Head) (ws cells : List ℕ) (stride i : ℕ) → eventBytes (recordOf h ws cells stride i) ≡ headBytes h ++ cellsBytes ws cells stride i
+unfolding headBytes
+record-parts h ws cells stride i = ap (λ (l : List ℕ). h .code ∷ l) (sym (append-assoc (be 4 (h .id)) (playerBytes h) (cellsBytes ws cells stride i)))
+
+pub length-record : (h : Head) (ws cells : List ℕ) (stride i : ℕ) → length (eventBytes (recordOf h ws cells stride i)) ≡ length (headBytes h) + sum ws
+length-record h ws cells stride i =
+    ap length (record-parts h ws cells stride i) ∙ length-append (headBytes h) (cellsBytes ws cells stride i) ∙ ap (λ (n : ℕ). length (headBytes h) + n) (length-cells ws cells stride i)
+
+-- ---- writing a record from its end: the start, a turn, and room for it
+module _ (h : Head) (ws cells : List ℕ) (stride first : ℕ) where
+  pub put-start : {out : List ℕ} {at : ℕ} → Behind out at (eventBytes (recordOf h ws cells stride first)) out (headBytes h ++ cellsBytes (take (length ws) ws) cells stride first)
+  put-start = rw (take-length, ← record-parts h ws cells stride first) behind-start
+
+  pub put-step : {out now after : List ℕ} {at next : ℕ} (k i q w : ℕ) → Turn ws cells stride first k
+      → i ≡ first + k * stride → q ≡ at + (length (headBytes h) + sum (take k ws)) → w ≡ getD ws (k - 1) 0
+      → Behind out at (eventBytes (recordOf h ws cells stride first)) now (headBytes h ++ cellsBytes (take k ws) cells stride first)
+      → Wrote now after (q - 4) next (be 4 (getD cells (i - stride) 0))
+      → Behind out at (eventBytes (recordOf h ws cells stride first)) after (headBytes h ++ cellsBytes (take (k - 1) ws) cells stride first)
+  put-step {at = at} k i q w t ei eq ew b x =
+      let before = headBytes h ++ cellsBytes (take (k - 1) ws) cells stride first in
+      let v = getD cells (i - stride) 0 in
+      let room = head-room h in
+      let long : length before ≡ length (headBytes h) + sum (take (k - 1) ws) = simp (length-append, length-cells) in
+      let value : getD cells (first + (k - 1) * stride) 0 ≡ v = ap (λ (j : ℕ). getD cells j 0) (sym (t .index) ∙ ap (λ (j : ℕ). j - stride) (sym ei)) in
+      behind-step before (headBytes h ++ cellsBytes (take k ws) cells stride first) w v
+      (omega (arith, t .narrow)) (omega arith) (omega (arith, t .total))
+      (ap (λ (l : List ℕ). headBytes h ++ l) (t .bytes ∙ ap₂ (λ (a c : ℕ). cellsBytes (take (k - 1) ws) cells stride first ++ be a c) (sym ew) value)
+      ∙ sym (append-assoc (headBytes h) (cellsBytes (take (k - 1) ws) cells stride first) (be w v)))
+      b x
 
 -- ---- reading a row
-
-pub filled-append : (xs ys bytes cells : List ℕ) (stride i : ℕ)
-    → filled (xs ++ ys) bytes cells stride i ≡ filled ys (drop (sum xs) bytes) (filled xs bytes cells stride i) stride (i + length xs * stride)
-unfolding filled sum
-filled-append [] ys bytes cells stride i = rw (zero-mul, add-zero)
-filled-append (x ∷ xs) ys bytes cells stride i =
-    filled-append xs ys (drop x bytes) (set cells i (number (take x bytes))) stride (i + stride)
-    ∙ rw (drop-drop (sum xs) x bytes, further i (length xs) stride)
 
 pub length-filled : (ws bytes cells : List ℕ) (stride i : ℕ) → length (filled ws bytes cells stride i) ≡ length cells
 unfolding filled
 length-filled [] bytes cells stride i = refl
 length-filled (w ∷ ws) bytes cells stride i = length-filled ws (drop w bytes) (set cells i (number (take w bytes))) stride (i + stride) ∙ length-set cells i (number (take w bytes))
 
--- a loop over the n columns of a run, at column k, which reads at p: one turn, and the end
-module _ (n k w : ℕ) (s : List ℕ) (p : ℕ) where
-  pub read-step : (cells : List ℕ) (stride i v : ℕ) → k < n → v ≡ number (part s p w)
-      → filled (replicate (n - (k + 1)) w) (drop (p + w) s) (set cells i v) stride (i + stride) ≡ filled (replicate (n - k) w) (drop p s) cells stride i
+-- a loop over the columns, at column k, which reads at p: one turn, and the end
+module _ (ws : List ℕ) (k w : ℕ) (h : k < length ws) (e : w ≡ getD ws k 0) where
+  pub read-step : (s : List ℕ) (p : ℕ) (cells : List ℕ) (stride i v : ℕ) → v ≡ number (part s p w)
+      → filled (drop (k + 1) ws) (drop (p + w) s) (set cells i v) stride (i + stride) ≡ filled (drop k ws) (drop p s) cells stride i
   unfolding filled part
-  read-step cells stride i v h e = rw (one-more n k w h, e, ← drop-drop w p s)
+  read-step s p cells stride i v q = rw (drop-cons ws k 0 h, add-one k, ← e, q, ← drop-drop w p s)
 
-  pub read-sum : k < n → p + w + sum (replicate (n - (k + 1)) w) ≡ p + sum (replicate (n - k) w)
+  pub read-sum : sum (drop k ws) ≡ w + sum (drop (k + 1) ws)
   unfolding sum
-  read-sum h = rw (one-more n k w h) (omega arith)
+  read-sum = rw (drop-cons ws k 0 h, add-one k, e)
 
-  pub read-done : (cells : List ℕ) (stride i : ℕ) → n ≤ k → (filled (replicate (n - k) w) (drop p s) cells stride i ≡ cells) × (sum (replicate (n - k) w) ≡ 0)
-  unfolding filled sum
-  read-done cells stride i h = rw (no-more n k w h) (refl, refl)
+  pub read-store : (len stride i : ℕ) → InStore (drop k ws) len stride i → (w ≤ 4) × (i < len) × (stride ≤ len) × InStore (drop (k + 1) ws) len stride (i + stride)
+  unfolding InStore
+  read-store len stride i s = rw (add-one k, e) (rw (drop-cons ws k 0 h) at s)
 
--- and over the runs of a row, at run j
-module _ (ws ls : List ℕ) (j n w : ℕ) (h : j < length ws) (k : j < length ls) (en : n ≡ getD ls j 0) (ew : w ≡ getD ws j 0) where
-  pub row-step : (s : List ℕ) (p q : ℕ) (cells after : List ℕ) (stride i : ℕ) → q ≡ p + sum (replicate n w) → after ≡ filled (replicate n w) (drop p s) cells stride i
-      → filled (expand (drop (j + 1) ws) (drop (j + 1) ls)) (drop q s) after stride (i + n * stride) ≡ filled (expand (drop j ws) (drop j ls)) (drop p s) cells stride i
-  row-step s p q cells after stride i eq ea =
-      sym (ap (λ (x : List ℕ). filled x (drop p s) cells stride i) (expand-step ws ls j n w h k en ew)
-      ∙ filled-append (replicate n w) (expand (drop (j + 1) ws) (drop (j + 1) ls)) (drop p s) cells stride i
-      ∙ rw (drop-drop (sum (replicate n w)) p s, length-replicate n w, ← eq, ← ea))
-
-  pub row-sum : sum (expand (drop j ws) (drop j ls)) ≡ sum (replicate n w) + sum (expand (drop (j + 1) ws) (drop (j + 1) ls))
-  row-sum = ap sum (expand-step ws ls j n w h k en ew) ∙ sum-append (replicate n w) (expand (drop (j + 1) ws) (drop (j + 1) ls))
-
-pub row-done : (ws ls s : List ℕ) (j p : ℕ) (cells : List ℕ) (stride i : ℕ) → length ws ≤ j
-    → (filled (expand (drop j ws) (drop j ls)) (drop p s) cells stride i ≡ cells) × (sum (expand (drop j ws) (drop j ls)) ≡ 0)
-unfolding expand filled sum
-row-done ws ls s j p cells stride i h = rw (drop-of-length-le ws h) (refl, refl)
+pub read-done : (ws s : List ℕ) (k p : ℕ) (cells : List ℕ) (stride i : ℕ) → length ws ≤ k → (filled (drop k ws) (drop p s) cells stride i ≡ cells) × (sum (drop k ws) ≡ 0)
+unfolding filled sum
+read-done ws s k p cells stride i h = rw (drop-of-length-le ws h) (refl, refl)

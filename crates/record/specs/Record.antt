@@ -13,11 +13,19 @@ unfoldable pub cellsBytes : List ℕ → List ℕ → ℕ → ℕ → List ℕ
 cellsBytes [] cells stride i = []
 cellsBytes (w ∷ ws) cells stride i = be w (getD cells i 0) ++ cellsBytes ws cells stride (i + stride)
 
--- a record is an event: frame id, for a player port and follower, then the cells
+-- port and follower, for a player's record
+abbrev pub playerBytes : Head → List ℕ
+playerBytes h = keep (h .player) (h .port ∷ h .follower ∷ [])
+
+-- code, frame id and player
+unfoldable pub headBytes : Head → List ℕ
+headBytes h = h .code ∷ (be 4 (h .id) ++ playerBytes h)
+
+-- a record is an event: frame id, player, then the cells
 abbrev pub recordOf : Head → List ℕ → List ℕ → ℕ → ℕ → Ev
 recordOf h ws cells stride i = record {
   code = h .code;
-  payload = be 4 (h .id) ++ (keep (h .player) (h .port ∷ h .follower ∷ []) ++ cellsBytes ws cells stride i);
+  payload = be 4 (h .id) ++ (playerBytes h ++ cellsBytes ws cells stride i);
 }
 
 -- the store with one row filled from bytes: each column's cell is the number at its width

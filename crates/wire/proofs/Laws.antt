@@ -11,7 +11,7 @@ use lib.Pow.{pow-add}
 use native.Mathlib.Numerals.{add-one, add-two, add-three, sub-one}
 use native.Mathlib.Omega.{arith}
 use lib.ListN.{length, take, drop, set, getD, length-set, length-append, List·getD-append}
-use lib.Seq.{sets, sets-eq, drop-cons, drop-at, length-take-le, take-append-seam, ext-getD, getD-at, getD-set-same, getD-set-other}
+use lib.Seq.{sets, sets-eq, set-comm, set-set, drop-cons, drop-at, length-take-le, take-append-seam, ext-getD, getD-at, getD-set-same, getD-set-other}
 use native.Mathlib.Decide.{decLt, ℕ-discrete}
 use Rattle.wire.specs.Wire.{be, more, number, splice, part, ranged, keep, tabulate}
 
@@ -34,6 +34,43 @@ pub splice-append : (xs : List ℕ) (at : ℕ) (ys zs : List ℕ) → splice xs 
 unfolding splice
 splice-append xs at [] zs = rw add-zero
 splice-append xs at (y ∷ ys) zs = rw (add-suc, ← suc-add at (length ys)) (splice-append (set xs at y) (suc at) ys zs)
+
+-- stores that do not meet may change places, and a part that is written over whole might as well not have been there
+set-splice : (xs : List ℕ) (i x j : ℕ) (ys : List ℕ) → i < j → splice (set xs i x) j ys ≡ set (splice xs j ys) i x
+unfolding splice
+set-splice xs i x j [] h = refl
+set-splice xs i x j (y ∷ ys) h =
+    ap (λ (l : List ℕ). splice l (suc j) ys) (set-comm xs i j x y (λ e. absurd (omega arith))) ∙ set-splice (set xs j y) i x (suc j) ys (omega arith)
+
+splice-splice : (xs : List ℕ) (i : ℕ) (ys : List ℕ) (j : ℕ) (zs : List ℕ) → i + length ys ≤ j → splice (splice xs i ys) j zs ≡ splice (splice xs j zs) i ys
+unfolding splice
+splice-splice xs i [] j zs h = refl
+splice-splice xs i (y ∷ ys) j zs h =
+    splice-splice (set xs i y) (suc i) ys j zs (omega arith) ∙ ap (λ (l : List ℕ). splice l (suc i) ys) (set-splice xs i y j zs (omega arith))
+
+splice-over : (xs : List ℕ) (i : ℕ) (ys zs : List ℕ) → length ys ≡ length zs → splice (splice xs i ys) i zs ≡ splice xs i zs
+unfolding splice
+splice-over xs i [] zs h = refl
+splice-over xs i (y ∷ ys) [] h = absurd (omega arith)
+splice-over xs i (y ∷ ys) (z ∷ zs) h =
+    ap (λ (l : List ℕ). splice l (suc i) zs) (sym (set-splice (set xs i y) i z (suc i) ys (omega arith)) ∙ ap (λ (l : List ℕ). splice l (suc i) ys) (set-set xs i y z))
+    ∙ splice-over (set xs i z) (suc i) ys zs (omega arith)
+
+-- what was written too much before a part, of bytes that are still to come, does not show in the end
+pub splice-behind : (xs : List ℕ) (at : ℕ) (a b junk ys : List ℕ) → length junk ≡ length b
+    → splice (splice xs (at + length a) (junk ++ ys)) at (a ++ b) ≡ splice xs at ((a ++ b) ++ ys)
+splice-behind xs at a b junk ys h =
+    let q = at + length a in
+    let r = at + length (a ++ b) in
+    let e : q + length junk ≡ r = simp length-append (omega (arith, h)) in
+    ap (λ (l : List ℕ). splice l at (a ++ b)) (splice-append xs q junk ys ∙ ap (λ (k : ℕ). splice (splice xs q junk) k ys) e)
+    ∙ sym (splice-splice (splice xs q junk) at (a ++ b) r ys (omega arith))
+    ∙ ap (λ (l : List ℕ). splice l r ys)
+    (splice-append (splice xs q junk) at a b
+    ∙ ap (λ (l : List ℕ). splice l q b) (sym (splice-splice xs at a q junk (omega arith)))
+    ∙ splice-over (splice xs at a) q junk b h
+    ∙ sym (splice-append xs at a b))
+    ∙ sym (splice-append xs at (a ++ b) ys)
 
 -- with room, the definition in one line
 splice-sets : (xs : List ℕ) (at : ℕ) (ys : List ℕ) → splice xs at ys ≡ sets xs at ys
@@ -59,6 +96,12 @@ pub be-done : (w v : ℕ) → w ≤ 0 → be w v ≡ []
 unfolding be
 be-done zero v h = refl
 be-done (suc w) v h = absurd (omega arith)
+
+-- the low bytes of a number stand last among its bytes
+pub be-low : (k w v : ℕ) → drop k (be (k + w) v) ≡ be w v
+unfolding be
+be-low zero w v = rw zero-add
+be-low (suc k) w v = rw (suc-add k w) (be-low k w v)
 
 pub pow-8 : (w : ℕ) → 2 ^ (8 * w) ≡ 256 ^ w
 pow-8 zero = refl

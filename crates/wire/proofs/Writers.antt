@@ -1,15 +1,16 @@
 -- The laws of writers: what is written, one after the other, what is left to write, and loops over a range.
 -- Assumes nothing.
-use mathlib.Core.Path.{_≡_, refl, sym, ap, _∙_}
+use mathlib.Core.Path.{_≡_, refl, sym, ap, ap₂, _∙_}
 use mathlib.Core.Bool.{Bool, true, false}
 use mathlib.Core.List.{List, [], _∷_, _++_}
 use Prim.Native.Nat.{ℕ, zero, suc, _+_, _-_, _*_, _/_, _%_, _≤_, _<_}
 use native.Mathlib.Nat.{add-zero, add-assoc, div-one, sub-zero, sub-eq-zero-of-le}
 use native.Mathlib.Numerals.{add-one, add-two, add-three}
 use native.Mathlib.Omega.{arith}
-use lib.ListN.{length, set, length-append}
+use lib.ListN.{length, set, take, drop, length-append, length-drop, take-append-drop}
+use lib.Seq.{length-take-le}
 use Rattle.wire.specs.Wire.{be, splice, ranged, keep, Room, Wrote}
-use Rattle.wire.proofs.Laws.{splice-nil, length-splice, splice-append, length-be}
+use Rattle.wire.proofs.Laws.{splice-nil, length-splice, splice-append, splice-behind, length-be, be-low}
 
 module _ {before middle after : List ℕ} {at mid next : ℕ} {xs ys : List ℕ} where
   -- one writer after another
@@ -82,6 +83,49 @@ module _ {first all now : List ℕ} {at p : ℕ} where
     next-is = sym (add-zero p) ∙ rw e at (l .place);
     after-is = sym (splice-nil now p) ∙ rw e at (l .left);
   }
+
+-- ---- writing from the end: whoever writes `before` over `now` from at on has then written `all` over `first` from at on
+pub record Behind (first : List ℕ) (at : ℕ) (all now before : List ℕ) : Type 0 where
+  pub same : length now ≡ length first
+  pub behind : splice now at before ≡ splice first at all
+
+pub behind-start : {first all : List ℕ} {at : ℕ} → Behind first at all first all
+behind-start = record { same = refl; behind = refl }
+
+low-last : (w v : ℕ) → w ≤ 4 → take (4 - w) (be 4 v) ++ be w v ≡ be 4 v
+low-last w v h =
+    let e : 4 - w + w ≡ 4 = omega arith in
+    let low : drop (4 - w) (be 4 v) ≡ be w v = rw e at (be-low (4 - w) w v) in
+    ap (λ (l : List ℕ). take (4 - w) (be 4 v) ++ l) (sym low) ∙ take-append-drop (4 - w) (be 4 v)
+
+module _ {first all now after : List ℕ} {at : ℕ} where
+  -- a turn: all four bytes of v, of which the w lowest are wanted; the others fall on what is to come
+  pub behind-step : (before more : List ℕ) (w v : ℕ) {q next : ℕ} → w ≤ 4 → 4 ≤ length before → q + 4 ≡ at + (length before + w) → more ≡ before ++ be w v
+      → Behind first at all now more → Wrote now after q next (be 4 v) → Behind first at all after before
+  behind-step before more w v {q} small long place e b x =
+      let k = length before - (4 - w) in
+      let a = take k before in
+      let c = drop k before in
+      let junk = take (4 - w) (be 4 v) in
+      let parts : a ++ c ≡ before = take-append-drop k before in
+      let bytes : junk ++ be w v ≡ be 4 v = low-last w v small in
+      let la : length a ≡ k = length-take-le k before (omega arith) in
+      let lc : length c ≡ 4 - w = simp length-drop (omega arith) in
+      let lj : length junk ≡ 4 - w = length-take-le (4 - w) (be 4 v) (rw length-be (omega arith)) in
+      let spot : q ≡ at + length a = omega arith in
+      record {
+        same = wrote-length x ∙ b .same;
+        behind =
+            ap₂ (λ (l m : List ℕ). splice l at m) (x .after-is ∙ ap₂ (λ (i : ℕ) (l : List ℕ). splice now i l) spot (sym bytes)) (sym parts)
+            ∙ splice-behind now at a c junk (be w v) (lj ∙ sym lc)
+            ∙ ap (λ (m : List ℕ). splice now at (m ++ be w v)) parts
+            ∙ ap (λ (m : List ℕ). splice now at m) (sym e)
+            ∙ b .behind;
+      }
+
+  -- the rest is written from the start on
+  pub behind-done : {before : List ℕ} {mid next : ℕ} → Behind first at all now before → Wrote now after at mid before → next ≡ at + length all → Wrote first after at next all
+  behind-done b x e = record { next-is = e; after-is = x .after-is ∙ b .behind }
 
 -- bytes stored one by one: two and four of them
 pub wrote-2 : (xs : List ℕ) (at v : ℕ) → Wrote xs (set (set xs at (v / 256 % 256)) (at + 1) (v % 256)) at (at + 2) (be 2 v)
