@@ -1,15 +1,18 @@
--- Document 01's case 10, and the order of the refusals, computed.
+-- Document 01's case 10, the order of its refusals, and the bytes of scratch that it gives an id.
 -- Assumes nothing.
-use mathlib.Core.Path.{_≡_, refl}
+use mathlib.Core.Path.{_≡_, refl, ap}
 use mathlib.Core.List.{List, [], _∷_, map}
-use Prim.Native.Nat.{ℕ, _≤_, _<_}
+use Prim.Native.Nat.{ℕ, suc, _-_, _≤_, _<_}
 use native.Mathlib.Omega.{arith}
+use borrow.Author.Tests.{le-ltb}
+use lib.IntN.{ℤ, pos, negsuc, _+ℤ_}
 use lib.ListN.{replicate, length-replicate}
 use Rattle.wire.specs.Wire.{tabulate}
 use Rattle.format.specs.FrameId.{placeOf}
 use Rattle.rollback.specs.Mask.{occurs, maskOf, needed, marksOf, allInRange, answerOf, numberOf, Outcome}
 use Rattle.rollback.specs.declared.frame.Rollbacks.the-variants.{ExceptFirst, ExceptLast}
 use Rattle.rollback.specs.declared.frame.Masked.the-variants.{Written, Refused}
+use Rattle.rollback.proofs.Places.{pos-place, neg-place}
 use Rattle.rollback.proofs.Outcomes.{too-many, mask-short}
 
 -- -123 -122 -122 -121
@@ -74,3 +77,13 @@ too-many-frames n h = too-many (omega (arith, length-replicate n low))
 
 few-frames : (n : ℕ) → 0 < n → n ≤ 1048576 → Outcome (replicate n low) ExceptFirst [] [] (Refused 12) [] []
 few-frames n h l = mask-short (omega (arith, length-replicate n low)) (omega (arith, length-replicate n low))
+
+-- ---- the scratch
+
+-- an id in range takes the id and 124 bytes
+id-and-124 : (id : ℤ) → placeOf id < 1048576 → pos (suc (placeOf id)) ≡ id +ℤ pos 124
+id-and-124 (pos n) h = ap pos (omega (arith, pos-place n h))
+id-and-124 (negsuc n) h =
+    let e = neg-place n h in
+    let q : suc (placeOf (negsuc n)) ≡ 124 - suc n = omega arith in
+    rw (le-ltb 124 (suc n) (omega arith)) (ap pos q)

@@ -1,14 +1,13 @@
 -- The laws of marks: what occurs, and the bytes that say so.
 -- Assumes nothing.
 use mathlib.Core.Path.{_≡_, refl, sym, ap, _∙_}
-use mathlib.Core.Bool.{Bool, true, false, _||_, or-assoc, or-comm}
+use mathlib.Core.Bool.{Bool, _||_, or-assoc, or-comm}
 use mathlib.Core.List.{List, [], _∷_, _++_, map}
-use Prim.Native.Nat.{ℕ, _≤_, _<_}
+use Prim.Native.Nat.{ℕ, _<_}
 use native.Mathlib.Omega.{arith}
 use borrow.Author.Tests.{eq-eqb, ne-eqb}
 use lib.Dec.{eqb}
 use lib.ListN.{length, getD, set, replicate, length-set, length-replicate, getD-replicate}
-use Rattle.wire.specs.Wire.{tabulate}
 use Rattle.wire.proofs.Laws.{tabulate-length, tabulate-at, tabulated, stored}
 use Rattle.rollback.specs.Mask.{occurs, flag, place, marksOf}
 

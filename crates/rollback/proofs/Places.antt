@@ -1,7 +1,7 @@
 -- The laws of places: which ids have one, that no two ids have the same, and how many the ids need.
 -- Assumes nothing.
 use mathlib.Core.Path.{_≡_, refl, sym, ap, _∙_}
-use mathlib.Core.Bool.{Bool, true, false, _&&_}
+use mathlib.Core.Bool.{Bool, _&&_}
 use mathlib.Core.List.{List, [], _∷_, map}
 use Prim.Native.Nat.{ℕ, zero, suc, _+_, _-_, _≤_, _<_, max}
 use native.Mathlib.Omega.{arith}
@@ -20,7 +20,7 @@ use Rattle.rollback.specs.Mask.{place, needed, occurs, allInRange}
 
 -- ---- one id
 
-pos-place : (n : ℕ) → placeOf (pos n) < 1048576 → placeOf (pos n) ≡ n + 123
+pub pos-place : (n : ℕ) → placeOf (pos n) < 1048576 → placeOf (pos n) ≡ n + 123
 unfolding placeOf
 pos-place n h =
     elim (decLt 1048452 n) [
@@ -28,7 +28,7 @@ pos-place n h =
       | no r ↦ rw (le-ltb 1048452 n (omega arith))
     ]
 
-neg-place : (n : ℕ) → placeOf (negsuc n) < 1048576 → placeOf (negsuc n) + suc n ≡ 123
+pub neg-place : (n : ℕ) → placeOf (negsuc n) < 1048576 → placeOf (negsuc n) + suc n ≡ 123
 unfolding placeOf
 neg-place n h =
     elim (decLt 122 n) [
@@ -82,11 +82,14 @@ leb-max a b n =
       ]
     ]
 
+both : {a b c d : Bool} → a ≡ c → b ≡ d → (a && b) ≡ (c && d)
+both e f = cc
+
 -- all ids are in range where no more bytes are needed than there are ids
 pub all-in-place : (ids : List ℕ) → allInRange ids ≡ leb (needed ids) 1048576
 unfolding allInRange needed
 all-in-place [] = refl
-all-in-place (b ∷ bs) = rw (leb-max (suc (place b)) (needed bs) 1048576, in-place (toZ w32 b), all-in-place bs)
+all-in-place (b ∷ bs) = both (in-place (toZ w32 b)) (all-in-place bs) ∙ sym (leb-max (suc (place b)) (needed bs) 1048576)
 
 -- ---- cells whose ids are in range
 

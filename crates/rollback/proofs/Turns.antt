@@ -2,9 +2,9 @@
 -- differ only in the first section.
 -- Assumes nothing.
 use mathlib.Core.Path.{_≡_, refl, sym, ap, _∙_}
-use mathlib.Core.Bool.{Bool, _||_}
-use mathlib.Core.List.{List, [], _∷_, _++_, map, map-append}
-use Prim.Native.Nat.{ℕ, zero, suc, _+_, _-_, _≤_, _<_}
+use mathlib.Core.Bool.{_||_}
+use mathlib.Core.List.{List, [], _∷_, map, map-append}
+use Prim.Native.Nat.{ℕ, suc, _+_, _-_, _≤_, _<_}
 use native.Mathlib.Nat.{sub-zero, sub-eq-zero-of-le}
 use native.Mathlib.Omega.{arith}
 use native.Mathlib.Numerals.{add-one}
@@ -71,7 +71,6 @@ placed-others ExceptLast ids i h = placed-drop (suc i) ids h
 
 -- after k turns
 pub record Swept (keep : Rollbacks) (ids mask marks : List ℕ) (k : ℕ) : Type 0 where
-  pub within : k ≤ length ids
   pub long : length mask ≡ length ids
   pub done : (j : ℕ) → j < k → let i = turnOf keep (length ids) j in getD mask i 0 ≡ repeats keep ids i
   pub marks-are : marks ≡ marksOf (passed keep ids k) (needed ids)
@@ -82,7 +81,6 @@ swept-length {keep} {ids} {k = k} v = ap length (v .marks-are) ∙ marks-length 
 module _ {keep : Rollbacks} {ids mask marks : List ℕ} where
   pub swept-none : length mask ≡ length ids → marks ≡ replicate (needed ids) 0 → Swept keep ids mask marks 0
   swept-none e m = record {
-    within = omega arith;
     long = e;
     done = λ j l. absurd (omega arith);
     marks-are = rw passed-none (m ∙ marks-none (needed ids));
@@ -120,7 +118,6 @@ module _
 
     pub swept-more : Placed ids → Swept keep ids (set mask i (getD marks p 0)) (set marks p 1) (k + 1)
     swept-more ok = record {
-      within = omega arith;
       long = length-set mask i (getD marks p 0) ∙ v .long;
       done = λ j l.
           stored 0 mask i (getD marks p 0) (repeats keep ids) (turnOf keep (length ids) j) (omega (arith, v .long, frame-below)) (read ok)

@@ -15,6 +15,7 @@ use Rattle.rollback.specs.declared.frame.Rollbacks.the-variants.{ExceptF
 use Rattle.rollback.specs.declared.frame.Masked.{Masked}
 use Rattle.rollback.specs.declared.frame.Masked.the-variants.{Written, Refused}
 
+-- x stands among these
 unfoldable pub occurs : ℕ → List ℕ → Bool
 occurs x [] = false
 occurs x (y ∷ ys) = eqb x y || occurs x ys
@@ -25,12 +26,12 @@ flag b = cond b 1 0
 
 -- ---- the mask
 
--- the frames before frame i, or those after it
+-- the frames before frame i, where the first of an id is kept; those after it, where the last is
 abbrev pub others : Rollbacks → List ℕ → ℕ → List ℕ
 others ExceptFirst ids i = take i ids
 others ExceptLast ids i = drop (suc i) ids
 
--- whether the id of frame i occurs among those: 0 at an id's first, or last, occurrence
+-- 1 where the id of frame i occurs among those, and 0 at its first, or last, occurrence
 abbrev pub repeats : Rollbacks → List ℕ → ℕ → ℕ
 repeats keep ids i = flag (occurs (getD ids i 0) (others keep ids i))
 
@@ -44,22 +45,23 @@ maskOf keep ids = tabulate (length ids) (repeats keep ids)
 abbrev pub place : ℕ → ℕ
 place cell = placeOf (toZ w32 cell)
 
--- its bytes: the largest id and 124, 0 for no frames
+-- how many bytes it needs: the largest id and 124, 0 for no frames
 unfoldable pub needed : List ℕ → ℕ
 needed [] = 0
 needed (cell ∷ cells) = max (suc (place cell)) (needed cells)
 
--- n bytes, from the first id's on: 1 where an id occurs, else 0
+-- n bytes, one for each id from the first on: 1 where that id occurs, else 0
 unfoldable pub marksOf : List ℕ → ℕ → List ℕ
 marksOf ids n = tabulate n (λ p. flag (occurs p (map place ids)))
 
 -- ---- the answer
 
+-- every id is from -123 to 1,048,452
 unfoldable pub allInRange : List ℕ → Bool
 allInRange [] = true
 allInRange (cell ∷ cells) = inRange (toZ w32 cell) && allInRange cells
 
--- the answer for a mask of m bytes and a scratch of s: document 01's number of the first refusal that applies, or the frames that are written
+-- the answer to ids, with a mask of m bytes and a scratch of s: document 01's number of the first refusal that applies, or how many frames are written
 unfoldable pub answerOf : List ℕ → ℕ → ℕ → Masked
 answerOf ids m s =
     cond (ltb 1048576 (length ids)) (Refused 2)
@@ -68,7 +70,7 @@ answerOf ids m s =
     (cond (ltb s (needed ids)) (Refused 12)
     (Written (length ids)))))
 
--- its number: 0 where the mask is written
+-- an answer's number: 0 where the mask is written
 abbrev pub numberOf : Masked → ℕ
 numberOf (Written frames) = 0
 numberOf (Refused number) = number
@@ -83,7 +85,7 @@ abbrev pub scratchAfter : Masked → List ℕ → List ℕ → List ℕ
 scratchAfter (Written frames) ids old = marksOf ids (needed ids) ++ drop (needed ids) old
 scratchAfter (Refused number) ids old = old
 
--- what a call on these makes: the answer, and what stands in the mask and in the scratch after it
+-- what a call makes of ids, mask and scratch: its answer, and what stands in the mask and in the scratch afterwards
 pub record Outcome (ids : List ℕ) (keep : Rollbacks) (mask scratch : List ℕ) (answer : Masked) (mask-after scratch-after : List ℕ) : Type 0 where
   pub answer-is : answer ≡ answerOf ids (length mask) (length scratch)
   pub mask-is : mask-after ≡ maskAfter answer keep ids mask

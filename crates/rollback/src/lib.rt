@@ -13,6 +13,15 @@ pub mod frame;
 // A mask takes no more frames than this.
 pub const MAX_FRAMES: usize = 1_048_576;
 
+// The refusals' numbers, in the order in which they are judged.
+const TOO_MANY_FRAMES: u8 = 2;
+
+const SHORT_MASK: u8 = 12;
+
+const ID_OUT_OF_RANGE: u8 = 13;
+
+const SHORT_SCRATCH: u8 = 12;
+
 // How far the id of a cell stands from the first; FrameId::COUNT for an id out of range.
 fn place_of(cell: u32) -> usize
     ensures { λ r. ⌜ (r ≡ place cell) × (r ≤ 1048576) ⌝ }
@@ -20,7 +29,7 @@ fn place_of(cell: u32) -> usize
     FrameId::of_cell(cell).place()
 }
 
-// How many bytes of scratch the ids need: the largest id and 124, 0 for no frames. Over FrameId::COUNT where an id is out of range.
+// How many bytes of scratch the ids need: the largest id and 124, 0 for no frames. More than FrameId::COUNT where an id is out of range.
 fn scratch_len(ids: &[u32]) -> usize
     ensures { λ r. ⌜ r ≡ needed (now (ids .entry)) ⌝ }
 {
@@ -57,7 +66,7 @@ fn turn(keep: Rollbacks, frames: usize, k: usize) -> usize
     }
 }
 
-// A frame is one to keep where no frame before its turn had its id.
+// The mask of ids that are all in range: a frame repeats where its id is marked when its turn comes.
 fn sweep(ids: &[u32], keep: Rollbacks, mask: &mut [u8], marks: &mut [u8])
     requires { ⌜ (length (now mask) ≡ length (now ids)) × (length (now marks) ≡ needed (now ids)) × (needed (now ids) ≤ 1048576) ⌝ }
     ensures { λ _. ⌜ (now (mask .exit) ≡ maskOf keep (now (ids .entry))) × (now (marks .exit) ≡ marksOf (now (ids .entry)) (needed (now (ids .entry)))) ⌝ }
@@ -74,23 +83,24 @@ fn sweep(ids: &[u32], keep: Rollbacks, mask: &mut [u8], marks: &mut [u8])
     }
 }
 
-// One byte a frame: 0 at the first, or at the last, that has its id, else 1.
+// Frame ids may appear several times due to rollbacks. The mask gets one byte a frame: 0 at an id's first (or last) occurrence, else 1.
+// The scratch gets 1 at each place whose id occurs, else 0. Bytes beyond both stay, and a refused call changes none.
 pub fn rollbacks(ids: &[u32], keep: Rollbacks, mask: &mut [u8], scratch: &mut [u8]) -> Masked
     ensures { λ r. ⌜ Outcome (now (ids .entry)) keep (now (mask .entry)) (now (scratch .entry)) r (now (mask .exit)) (now (scratch .exit)) ⌝ }
 {
     let frames = ids.len();
     if MAX_FRAMES < frames {
-        return Masked::Refused(2);
+        return Masked::Refused(TOO_MANY_FRAMES);
     }
     if mask.len() < frames {
-        return Masked::Refused(12);
+        return Masked::Refused(SHORT_MASK);
     }
     let need = scratch_len(ids);
     if FrameId::COUNT < need {
-        return Masked::Refused(13);
+        return Masked::Refused(ID_OUT_OF_RANGE);
     }
     if scratch.len() < need {
-        return Masked::Refused(12);
+        return Masked::Refused(SHORT_SCRATCH);
     }
     sweep(ids, keep, &mut mask[..frames], &mut scratch[..need]);
     Masked::Written(frames)

@@ -1,5 +1,5 @@
 -- `rollback::place_of` meets its contract. Assumes nothing.
-use mathlib.Core.Path.{_≡_, ap, _∙_}
+use mathlib.Core.Path.{ap, _∙_}
 use borrow.Author.Needs.{needs}
 use Rattle.format.specs.FrameId.{placeOf}
 use Rattle.rollback.proofs.place_of.Statement.{statement}

@@ -1,9 +1,9 @@
 -- `rollback::rollbacks` meets its contract: each return is one way that a call ends, and only the last has changed a lent byte.
 -- Assumes nothing.
-use mathlib.Core.Path.{_≡_, sym, _∙_}
+use mathlib.Core.Path.{sym, _∙_}
 use native.Mathlib.Omega.{arith}
 use borrow.Author.Needs.{needs}
-use lib.ListN.{length, take}
+use lib.ListN.{length}
 use lib.Seq.{length-take-le}
 use Rattle.rollback.proofs.Outcomes.{too-many, mask-short, out-of-range, scratch-short, written}
 use Rattle.rollback.proofs.rollbacks.Statement.{statement}

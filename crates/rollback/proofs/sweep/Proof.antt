@@ -1,6 +1,6 @@
 -- `rollback::sweep` meets its contract. The loop's invariant: the frames that had their turn have their bytes, and their ids are marked.
 -- Assumes nothing.
-use mathlib.Core.Path.{_≡_, sym, ap, _∙_}
+use mathlib.Core.Path.{sym, ap, _∙_}
 use Prim.Native.Nat.{ℕ, _-_, _<_}
 use native.Mathlib.Omega.{arith}
 use borrow.Author.Needs.{needs}
@@ -16,6 +16,7 @@ Inv-loop ids keep mask₀ marks₀ frames k₀ mask marks k = Swept keep ids mas
 abbrev μ-loop : tie.MeasureT-loop
 μ-loop ids keep mask₀ marks₀ frames k₀ mask marks k = length ids - k
 
+-- the function's entry, and the loop's head
 abbrev start : tie.After-slice-known3 Inv-loop μ-loop → tie.Start Inv-loop μ-loop
 start c = c .before .before .before .before .before .before .before
 
@@ -25,8 +26,7 @@ looped c = c .before .before .before .before .before
 loop-holds : tie.Need-loop-holds Inv-loop μ-loop
 loop-holds c =
     let a = start c in
-    swept-none (a .pre .0)
-    (c .before .before .clear .ensures ∙ ap (λ (n : ℕ). replicate n 0) (a .pre .1))
+    swept-none (a .pre .0) (c .before .before .clear .ensures ∙ ap (λ (n : ℕ). replicate n 0) (a .pre .1))
 
 mul-place-of : tie.Need-mul-place-of Inv-loop μ-loop
 mul-place-of c = omega arith
@@ -34,6 +34,7 @@ mul-place-of c = omega arith
 shared-slice-read-place-of : tie.Need-shared-slice-read-place-of Inv-loop μ-loop
 shared-slice-read-place-of c = omega arith
 
+-- the place is in the marks
 in-marks : (c : tie.After-slice-known4 Inv-loop μ-loop) → c .before .place-of .result < length (looped c .loop .marks)
 in-marks c = place-below (looped c .loop .inv) (omega arith) (c .before .before .before .turn .ensures .0) (c .before .place-of .ensures .0)
 
