@@ -1,4 +1,4 @@
--- Document 01's case 10, the order of its refusals, and the bytes of scratch that it gives an id.
+-- Ids -123 -122 -122 -121 in both modes, the order of the refusals, and the bytes of scratch that an id takes.
 -- Assumes nothing.
 use mathlib.Core.Path.{_≡_, refl, ap}
 use mathlib.Core.List.{List, [], _∷_, map}
