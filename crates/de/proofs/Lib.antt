@@ -1,0 +1,7 @@
+pub mod Heads
+pub mod Steps
+pub mod Runs
+pub mod Cuts
+pub mod EveryCut
+pub mod Only
+pub mod Cases

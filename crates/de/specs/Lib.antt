@@ -1,0 +1,6 @@
+pub mod Table
+pub mod Step
+pub mod Walk
+pub mod Numbers
+pub mod Cut
+pub mod Inner

@@ -1,0 +1,88 @@
+// Reads a whole replay on standard input, the smallest one, and prints the line of it whole, cut and damaged.
+use libc::STDIN_FILENO;
+use libc::STDOUT_FILENO;
+
+fn show(input: &[u8]) {
+    let mut text = [0u8; 64];
+    let k = line::report(input, &mut text);
+    io::write_all(STDOUT_FILENO, &text[..k]);
+}
+
+// The first n bytes.
+fn show_cut(file: &[u8], n: usize) {
+    if n <= file.len() {
+        show(&file[..n]);
+    }
+}
+
+// The first n bytes, with another byte at a place.
+fn show_changed(file: &mut [u8], n: usize, at: usize, byte: u8) {
+    if at < file.len() {
+        let old = file[at];
+        file[at] = byte;
+        show_cut(file, n);
+        file[at] = old;
+    }
+}
+
+// Cases 1 to 5, a file without its length, and none at all.
+fn cuts(file: &[u8]) {
+    show_cut(file, 351);
+    show_cut(file, 28);
+    show_cut(file, 29);
+    show_cut(file, 349);
+    show_cut(file, 350);
+    show_cut(file, 14);
+    show_cut(file, 0);
+}
+
+// Another signature; no table; a size byte that is not 1 modulo 3; a code twice.
+fn heads(file: &mut [u8]) {
+    show_changed(file, 351, 0, 0x7c);
+    show_changed(file, 351, 15, 0x36);
+    show_changed(file, 351, 16, 14);
+    show_changed(file, 351, 20, 0x36);
+}
+
+// The whole file, with another declared length, below 256.
+fn show_length(file: &mut [u8], length: u8) {
+    if 13 < file.len() {
+        let high = file[13];
+        file[13] = 0;
+        show_changed(file, 351, 14, length);
+        file[13] = high;
+    }
+}
+
+// A length of 0, one that is too small for the table by a byte, that of the table alone, and one that ends within the event.
+fn lengths(file: &mut [u8]) {
+    show_length(file, 0);
+    show_length(file, 13);
+    show_length(file, 14);
+    show_length(file, 15);
+}
+
+// A code that the table lacks, whole and cut; an event that overruns whole data, and one that is cut.
+fn events(file: &mut [u8]) {
+    show_changed(file, 351, 29, 0x40);
+    show_changed(file, 100, 29, 0x40);
+    show_changed(file, 351, 19, 0x41);
+    show_changed(file, 350, 19, 0x41);
+    show_changed(file, 349, 19, 0x41);
+}
+
+// The longest input, and one byte more.
+fn longest(file: &[u8]) {
+    show_cut(file, 65536);
+    show_cut(file, 65537);
+}
+
+fn main() {
+    let mut file = [0u8; 65537];
+    io::read_full(STDIN_FILENO, &mut file);
+    cuts(&file);
+    heads(&mut file);
+    lengths(&mut file);
+    events(&mut file);
+    longest(&file);
+}
