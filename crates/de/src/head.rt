@@ -46,8 +46,8 @@ fn wide(x: u8) -> usize
     x as usize
 }
 
-// One more than a payload's size: the code is a byte.
-fn span(size: u16) -> u32
+// How many bytes an event takes: its code's and its payload's.
+pub fn span(size: u16) -> u32
     ensures { λ r. ⌜ r ≡ 1 + size ⌝ }
 {
     1 + size as u32
@@ -76,6 +76,7 @@ fn signed(file: &[u8]) -> bool
     true
 }
 
+// Event data runs from 15 for the declared length, or to a cut.
 fn bounds_of(file: &[u8]) -> Bounds
     requires { ⌜ 15 ≤ length (now file) ⌝ }
     ensures { λ r. ⌜ (r .stop ≡ stopOf (now (file .entry))) × (r .whole ≡ allPresent (now (file .entry))) × (r .stop ≤ length (now (file .entry))) ⌝ }
@@ -102,6 +103,7 @@ fn table_missing(file: &[u8], stop: usize) -> bool
     if stop < 17 {
         return true;
     }
+    // The code of the table's own event.
     if file[15] != 0x35 {
         return true;
     }
@@ -199,6 +201,7 @@ fn tabled(file: &[u8]) -> Head
     }
 }
 
+// The head of any file.
 pub fn parse_head(file: &[u8]) -> Head
     ensures { λ r. ⌜ HeadOf r (now (file .entry)) ⌝ }
 {

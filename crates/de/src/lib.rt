@@ -56,12 +56,6 @@ fn near(len: usize) -> usize
     if len < NEAR { len } else { NEAR }
 }
 
-fn span_of(size: u16) -> usize
-    ensures { λ r. ⌜ r ≡ 1 + size ⌝ }
-{
-    1 + size as usize
-}
-
 // How many bytes an event of this code takes: by n entries of the table, or by its index.
 fn span_at(codes: &[u8], sizes: &[u16], n: usize, spans: &[u32], code: u8) -> usize
     requires { ⌜ (n ≤ length (now codes)) × (n ≤ length (now sizes)) × Agree (now codes) (now sizes) n (now spans) × (length (now spans) ≡ 256) ⌝ }
@@ -70,7 +64,7 @@ fn span_at(codes: &[u8], sizes: &[u16], n: usize, spans: &[u32], code: u8) -> us
     let mut i = 0;
     while i < n {
         if codes[i] == code {
-            return span_of(sizes[i]);
+            return head::span(sizes[i]) as usize;
         }
         i += 1;
     }

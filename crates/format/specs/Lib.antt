@@ -3,3 +3,4 @@ pub mod FrameId
 pub mod Event
 pub mod File
 pub mod Refusal
+pub mod Mark

@@ -1,6 +1,6 @@
 -- Refusals: the lowest number that applies.
 -- Assumes nothing.
-use mathlib.Core.Bool.{Bool, true, false}
+use mathlib.Core.Bool.{Bool, true, false, _||_}
 use mathlib.Core.List.{List, [], _∷_}
 use Prim.Native.Nat.{ℕ, _+_}
 
@@ -9,3 +9,8 @@ unfoldable pub lowest : ℕ → List Bool → ℕ
 lowest k [] = 0
 lowest k (true ∷ bs) = k
 lowest k (false ∷ bs) = lowest (k + 1) bs
+
+-- one of the tests holds
+unfoldable pub oneOf : List Bool → Bool
+oneOf [] = false
+oneOf (b ∷ bs) = b || oneOf bs

@@ -19,10 +19,10 @@ returns : tie.Need-returns Inv-loop μ-loop
 returns c =
     let l = c .before .before .before .before .before in
     let s = l .before .before .before .before in
-    c .span-of .ensures ∙ sym (s .pre .2 (l .loop .i) (omega arith)) ∙ ap (λ (x : ℕ). getD (now (s .args .spans)) x 0) (c .before .before .if1 .taken)
+    c .span .ensures ∙ sym (s .pre .2 (l .loop .i) (omega arith)) ∙ ap (λ (x : ℕ). getD (now (s .args .spans)) x 0) (c .before .before .if1 .taken)
 
-cast-result : tie.Need-cast-result Inv-loop μ-loop
-cast-result c = omega (arith, c .shared-slice-known6 .given (c .before .before .before .before .before .before .args .code))
+cast-result-2 : tie.Need-cast-result-2 Inv-loop μ-loop
+cast-result-2 c = omega (arith, c .shared-slice-known6 .given (c .before .before .before .before .before .before .args .code))
 
 pub span-at-spec : {M : Type 1} → statement M
 span-at-spec =
@@ -35,11 +35,12 @@ span-at-spec =
     (λ c. omega arith)
     (λ c. omega arith)
     (λ c κs. tt)
+    (λ c. omega arith)
     returns
     (λ c. omega arith)
     (λ c. omega arith)
     (λ c. omega arith)
     (λ c. omega arith)
     (λ c. omega arith)
-    cast-result
+    cast-result-2
     (λ c. refl))

@@ -1,0 +1,199 @@
+-- The laws of forms: where a row's cells are, and that records by forms are the definition's events.
+-- Assumes nothing.
+use mathlib.Core.Path.{_≡_, refl, sym, ap, ap₂, subst, _∙_}
+use mathlib.Core.Bool.{Bool, true, false}
+use mathlib.Core.List.{List, [], _∷_, _++_, append-nil}
+use Prim.Native.Nat.{ℕ, zero, suc, _+_, _-_, _*_, _≤_, _<_}
+use native.Mathlib.Nat.{suc-mul, zero-mul, zero-add, mul-le-mul, mul-le-mul-right}
+use native.Mathlib.Numerals.{add-one}
+use native.Mathlib.Omega.{arith}
+use lib.ListN.{length, getD, take}
+use lib.Seq.{length-take-le}
+use Rattle.wire.specs.Wire.{ranged, keep, Room, Wrote}
+use Rattle.wire.proofs.Writers.{wrote-then, wrote-as, room-as}
+use Rattle.format.specs.File.{Ev, eventBytes, eventsBytes}
+use Rattle.format.proofs.Files.{events-append, events-ranged, events-keep}
+use Rattle.layout.specs.Columns.{Narrow, hasFamily, widthsOf, sum}
+use Rattle.layout.specs.declared.columns.Family.{Family}
+use Rattle.layout.specs.declared.columns.Family.the-variants.{Pre, Post, FrameStart, Item, FrameEnd, FodPlatform, DreamlandWhispy, StadiumTransformation}
+use Rattle.layout.proofs.Laws.{narrow-of}
+use Rattle.record.specs.Record.{recordOf, InStore}
+use Rattle.frames.specs.Input.{Slot, slotsOf, slotIn, Slotted, rowsOf, blocksOf}
+use Rattle.frames.specs.Stores.{Lent, cellsOf, offsetsOf}
+use Rattle.frames.specs.Presence.{presentAt}
+use Rattle.frames.specs.declared.input.Frames.{Frames}
+use Rattle.frames.specs.declared.slots.Slots.{Slots}
+use Rattle.frames.proofs.PresenceLaws.{slot-at}
+use Rattle.events.specs.Events.{plainHead, headOf, playerOf, rowOf, idOf, oneEvent, rowEvents, playerEvent, playerEvents, frameEvents, framesEvents}
+use Rattle.events.specs.Framed.{Rising, RisingIn, Framed}
+use Rattle.events.specs.Plans.{Formed, Made, columnsIn, recordIn, oneBytes, rowsBytes, playerBytes, playersBytes, frameBytes, Stored, PerFrame, PerOffset, Ready}
+use Rattle.events.specs.declared.plans.Form.{Form}
+use Rattle.events.specs.declared.plans.Plans.{Plans}
+
+-- ---- a row's cells are in their store
+
+in-store-from : (ws : List ℕ) (len rows i : ℕ) → Narrow ws → rows ≤ len → i + length ws * rows < len + rows → InStore ws len rows i
+unfolding InStore Narrow
+in-store-from [] len rows i n l h = tt
+in-store-from (w ∷ ws) len rows i n l h =
+    let e = suc-mul (length ws) rows in
+    (n .0, omega arith, l, in-store-from ws len rows (i + rows) (n .1) l (omega arith))
+
+pub in-store : (ws cells : List ℕ) (blocks rows b r : ℕ) → Narrow ws → length cells ≡ blocks * (length ws * rows) → b < blocks → r < rows
+    → InStore ws (length cells) rows (b * (length ws * rows) + r)
+unfolding InStore
+in-store [] cells blocks rows b r n e h k = tt
+in-store (w ∷ ws) cells blocks rows b r n e h k =
+    let block = length (w ∷ ws) * rows in
+    let one = suc-mul (length ws) rows in
+    let more : suc b * block ≤ blocks * block = mul-le-mul-right block h in
+    let next = suc-mul b block in
+    in-store-from (w ∷ ws) (length cells) rows (b * block + r) n (omega arith) (omega arith)
+
+-- by a form: in a block, and in the only one
+module _ (m : Form) (cells : List ℕ) where
+  pub row-in : (blocks b r : ℕ) → Stored m cells blocks → b < blocks → r < m .rows → InStore (columnsIn m) (length cells) (m .rows) (b * m .block + r)
+  row-in blocks b r s h k =
+      let n : length (columnsIn m) ≡ m .count = length-take-le (m .count) (m .widths) (s .few) in
+      let e : length (columnsIn m) * m .rows ≡ m .block = ap (λ (x : ℕ). x * m .rows) n ∙ sym (s .block) in
+      subst (λ (x : ℕ). InStore (columnsIn m) (length cells) (m .rows) (b * x + r)) e
+      (in-store (columnsIn m) cells blocks (m .rows) b r (s .narrow) (s .whole ∙ ap (λ (x : ℕ). blocks * x) (sym e)) h k)
+
+  pub only-in : (r : ℕ) → Stored m cells 1 → r < m .rows → InStore (columnsIn m) (length cells) (m .rows) r
+  only-in r s k = rw (zero-mul, zero-add) at (row-in 1 0 r s (omega arith) k)
+
+-- ---- for wire: ranges of the same parts
+pub ranged-same : {A : Type 0} (f g : ℕ → List A) (i n : ℕ) → ((j : ℕ) → i ≤ j → j < i + n → f j ≡ g j) → ranged f i n ≡ ranged g i n
+unfolding ranged
+ranged-same f g i zero h = refl
+ranged-same f g i (suc n) h = ap₂ (λ (a b : List _). a ++ b) (h i (omega arith) (omega arith)) (ranged-same f g (i + 1) n (λ j l k. h j (omega arith) (omega arith)))
+
+-- ---- for format: the bytes of one event, and of two parts
+pub events-one : (e : Ev) → eventsBytes (e ∷ []) ≡ eventBytes e
+unfolding eventsBytes
+events-one e = append-nil (eventBytes e)
+
+pub events-both : (xs ys : List Ev) {a b : List ℕ} → eventsBytes xs ≡ a → eventsBytes ys ≡ b → eventsBytes (xs ++ ys) ≡ a ++ b
+events-both xs ys p q = events-append xs ys ∙ ap₂ (λ (a b : List ℕ). a ++ b) p q
+
+-- ---- records by a form are the definition's events
+module _ (f : Frames) (lent : Lent) (family : Family) (m : Form) (h : Formed f family m) where
+  abbrev store : List ℕ
+  store = cellsOf (lent .cells) family
+
+  plain-is : (id j : ℕ) → eventsBytes (rowOf f lent family (headOf family id) 0 j ∷ []) ≡ recordIn m store (plainHead (m .code) id) j
+  plain-is id j =
+      let ws = widthsOf family (f .version) in
+      let z : 0 * (length ws * rowsOf f family) + j ≡ j = ap (λ (x : ℕ). x + j) (zero-mul (length ws * rowsOf f family)) ∙ zero-add j in
+      events-one _
+      ∙ ap (λ (x : ℕ). eventBytes (recordOf (headOf family id) ws store (rowsOf f family) x)) z
+      ∙ rw (h .code, h .columns .each, h .rows)
+
+  pub one-is : (i : ℕ) → eventsBytes (oneEvent f lent family i) ≡ oneBytes m store (idOf lent i) i
+  unfolding oneEvent oneBytes
+  one-is i = events-keep (hasFamily (f .version) family) _ ∙ ap₂ (λ (b : Bool) (l : List ℕ). keep b l) (sym (h .given)) (plain-is (idOf lent i) i)
+
+  pub rows-is : (i : ℕ) → eventsBytes (rowEvents f lent family i) ≡ rowsBytes m store (offsetsOf (lent .offsets) family) (idOf lent i) i
+  unfolding rowEvents rowsBytes
+  rows-is i =
+      let os = offsetsOf (lent .offsets) family in
+      let a = getD os i 0 in
+      let n = getD os (i + 1) 0 - a in
+      events-keep (hasFamily (f .version) family) _
+      ∙ ap₂ (λ (b : Bool) (l : List ℕ). keep b l) (sym (h .given))
+      (events-ranged (λ j. rowOf f lent family (headOf family (idOf lent i)) 0 j ∷ []) a n
+      ∙ ranged-same (λ j. eventsBytes (rowOf f lent family (headOf family (idOf lent i)) 0 j ∷ [])) (λ j. recordIn m store (plainHead (m .code) (idOf lent i)) j) a n
+      (λ j l k. plain-is (idOf lent i) j))
+
+  module _ (s : Slots) (q : Slotted f s) where
+    player-is : (i k : ℕ) → k < s .count → eventsBytes (playerEvent f lent family i k) ≡ playerBytes m s store (lent .presence) (idOf lent i) i k
+    player-is i k l =
+        ap (λ (x : Slot). eventsBytes (keep (presentAt (lent .presence) x i) (rowOf f lent family (playerOf family (idOf lent i) x) k i ∷ []))) (slot-at f s q k l)
+        ∙ events-keep (presentAt (lent .presence) (slotIn s k) i) _
+        ∙ ap (λ (b : List ℕ). keep (presentAt (lent .presence) (slotIn s k) i) b) (events-one _ ∙ rw (h .code, h .columns .each, h .block, h .columns .columns, h .rows))
+
+    pub players-is : (i : ℕ) → eventsBytes (playerEvents f lent family i) ≡ playersBytes m s store (lent .presence) (idOf lent i) i
+    unfolding playerEvents playersBytes
+    players-is i =
+        events-ranged (playerEvent f lent family i) 0 (length (slotsOf f))
+        ∙ ap (λ (n : ℕ). ranged (λ k. eventsBytes (playerEvent f lent family i k)) 0 n) (sym (q .count))
+        ∙ ranged-same (λ k. eventsBytes (playerEvent f lent family i k)) (playerBytes m s store (lent .presence) (idOf lent i) i) 0 (s .count)
+        (λ k l j. player-is i k (omega arith))
+
+  -- and their stores are as long as the form says
+  pub stored-of : Framed f lent → (blocks : ℕ) → blocks ≡ blocksOf f family → Stored m store blocks
+  stored-of r blocks e = record {
+    few = omega (arith, h .columns .few, h .columns .room);
+    narrow = rw (h .columns .each) (narrow-of family (f .version));
+    total = h .columns .total ∙ ap sum (sym (h .columns .each));
+    block = h .block;
+    small = h .small;
+    whole = rw (e, h .block, h .columns .columns, h .rows) (r .stores family);
+  }
+
+  pub per-frame : Framed f lent → (blocks : ℕ) → blocks ≡ blocksOf f family → rowsOf f family ≡ f .counts .frames → PerFrame m store blocks (f .counts .frames)
+  per-frame r blocks e n = record { stored = stored-of r blocks e; rows = h .rows ∙ n }
+
+  pub per-offset : Framed f lent → 1 ≡ blocksOf f family → RisingIn f lent family → PerOffset m store (offsetsOf (lent .offsets) family) (f .counts .frames)
+  per-offset r e o = record {
+    stored = stored-of r 1 e;
+    rising = λ t. subst (λ (n : ℕ). Rising (offsetsOf (lent .offsets) family) (f .counts .frames) n) (sym (h .rows)) (o (sym (h .given) ∙ t));
+  }
+
+module _ (f : Frames) (s : Slots) (lent : Lent) (p : Plans) (m : Made f p) (q : Slotted f s) where
+  pub frame-is : (i : ℕ) → eventsBytes (frameEvents f lent i) ≡ frameBytes p s lent i
+  unfolding frameEvents frameBytes
+  frame-is i =
+      events-both _ _ (one-is f lent FrameStart (p .start) (m .start) i)
+      (events-both _ _ (players-is f lent Pre (p .pre) (m .pre) s q i)
+      (events-both _ _ (rows-is f lent FodPlatform (p .fod) (m .fod) i)
+      (events-both _ _ (rows-is f lent DreamlandWhispy (p .whispy) (m .whispy) i)
+      (events-both _ _ (rows-is f lent StadiumTransformation (p .stadium) (m .stadium) i)
+      (events-both _ _ (rows-is f lent Item (p .item) (m .item) i)
+      (events-both _ _ (players-is f lent Post (p .post) (m .post) s q i)
+      (one-is f lent FrameEnd (p .end) (m .end) i)))))))
+
+  pub frames-is : (n : ℕ) → n ≡ f .counts .frames → eventsBytes (framesEvents f lent) ≡ ranged (frameBytes p s lent) 0 n
+  unfolding framesEvents
+  frames-is n e =
+      events-ranged (frameEvents f lent) 0 (f .counts .frames)
+      ∙ ap (λ (k : ℕ). ranged (λ i. eventsBytes (frameEvents f lent i)) 0 k) (sym e)
+      ∙ ranged-same (λ i. eventsBytes (frameEvents f lent i)) (frameBytes p s lent) 0 n (λ i l k. frame-is i)
+
+  pub ready-of : Framed f lent → Ready p s lent (length (lent .cells .ids))
+  ready-of r = subst (λ (n : ℕ). Ready p s lent n) (sym (r .ids)) (record {
+    ids = r .ids;
+    frames = r .modest .frames;
+    seats = record { few = q .few; eight = q .eight };
+    start = per-frame f lent FrameStart (p .start) (m .start) r 1 refl refl;
+    pre = per-frame f lent Pre (p .pre) (m .pre) r (s .count) (q .count) refl;
+    fod = per-offset f lent FodPlatform (p .fod) (m .fod) r refl (r .fods);
+    whispy = per-offset f lent DreamlandWhispy (p .whispy) (m .whispy) r refl (r .whispys);
+    stadium = per-offset f lent StadiumTransformation (p .stadium) (m .stadium) r refl (r .stadiums);
+    item = per-offset f lent Item (p .item) (m .item) r refl (r .items);
+    post = per-frame f lent Post (p .post) (m .post) r (s .count) (q .count) refl;
+    end = per-frame f lent FrameEnd (p .end) (m .end) r 1 refl refl;
+  })
+
+-- ---- a frame, part after part
+module _ (p : Plans) (s : Slots) (lent : Lent) (i : ℕ) where
+  pub frame-wrote : {a0 a1 a2 a3 a4 a5 a6 a7 a8 : List ℕ} {p0 p1 p2 p3 p4 p5 p6 p7 p8 : ℕ}
+      → Wrote a0 a1 p0 p1 (oneBytes (p .start) (lent .cells .starts) (idOf lent i) i)
+      → Wrote a1 a2 p1 p2 (playersBytes (p .pre) s (lent .cells .pres) (lent .presence) (idOf lent i) i)
+      → Wrote a2 a3 p2 p3 (rowsBytes (p .fod) (lent .cells .fods) (lent .offsets .fods) (idOf lent i) i)
+      → Wrote a3 a4 p3 p4 (rowsBytes (p .whispy) (lent .cells .whispys) (lent .offsets .whispys) (idOf lent i) i)
+      → Wrote a4 a5 p4 p5 (rowsBytes (p .stadium) (lent .cells .stadiums) (lent .offsets .stadiums) (idOf lent i) i)
+      → Wrote a5 a6 p5 p6 (rowsBytes (p .item) (lent .cells .items) (lent .offsets .items) (idOf lent i) i)
+      → Wrote a6 a7 p6 p7 (playersBytes (p .post) s (lent .cells .posts) (lent .presence) (idOf lent i) i)
+      → Wrote a7 a8 p7 p8 (oneBytes (p .end) (lent .cells .ends) (idOf lent i) i)
+      → Wrote a0 a8 p0 p8 (frameBytes p s lent i)
+  unfolding frameBytes
+  frame-wrote w1 w2 w3 w4 w5 w6 w7 w8 = wrote-then w1 (wrote-then w2 (wrote-then w3 (wrote-then w4 (wrote-then w5 (wrote-then w6 (wrote-then w7 w8))))))
+
+-- ---- the players' blocks, one after another
+pub next-first : (block k i first : ℕ) → first ≡ k * block + i → first + block ≡ (k + 1) * block + i
+next-first block k i first e = let n = suc-mul k block in rw (add-one k) (omega arith)
+
+-- no slot's first cell is far, nor is the next one's
+pub first-small : (block k i first : ℕ) → k < 8 → block ≤ 134217728 → i ≤ 1048576 → first ≡ k * block + i → first + block ≤ 1074790400
+first-small block k i first h b j e = let n = suc-mul k block in let l : suc k * block ≤ 8 * 134217728 = mul-le-mul h b in omega arith

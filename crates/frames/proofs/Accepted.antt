@@ -1,0 +1,125 @@
+-- What is known of an accepted input: from the judge's answer 0, that refusals 1 to 7 do not apply, and what that says of each part.
+-- Assumes nothing.
+use mathlib.Core.Path.{_≡_, refl, sym, ap, _∙_}
+use mathlib.Core.Bool.{Bool, true, false, not}
+use mathlib.Core.List.{List, [], _∷_, _++_, map}
+use Prim.Native.Nat.{ℕ, zero, suc, _+_, _≤_, _<_}
+use native.Mathlib.Nat.{add-zero, add-suc, suc-add}
+use native.Mathlib.Numerals.{add-one}
+use native.Mathlib.Omega.{arith}
+use borrow.Author.Tests.{ltb-false, not-false}
+use lib.Dec.{lit<}
+use lib.ListN.{length, getD}
+use Rattle.format.specs.Version.{acceptedOf}
+use Rattle.format.specs.Refusal.{lowest}
+use Rattle.format.proofs.Refusals.{passed}
+use Rattle.layout.specs.declared.columns.Family.{Family}
+use Rattle.layout.specs.declared.columns.Family.the-variants.{Item}
+use Rattle.frames.specs.Stores.{Lent, Cells, Offsets, families, offsetFamilies, cellsOf, offsetsOf}
+use Rattle.frames.specs.Judge.{oneOf, tooMany, misfits, exceeds, storesMisfit, cellsExceed, misleads, offsetsMislead, refusals}
+use Rattle.frames.specs.Accepted.{Modest, Stored, Placed, Attended, Ported, Accepted}
+use Rattle.frames.specs.declared.input.Frames.{Frames}
+use Rattle.frames.proofs.Tests.{one-passed, rest-each}
+use Rattle.frames.proofs.CellLaws.{family-none, ids-fit, stores-fit, stored}
+use Rattle.frames.proofs.OffsetLaws.{placed}
+use Rattle.frames.proofs.PresenceLaws.{presence-even, covered}
+use Rattle.frames.proofs.PortLaws.{ported}
+
+-- ---- for format: tests that come after others
+suc-zero : (k : ℕ) → suc k ≡ 0 → ⊥
+suc-zero k e = omega arith
+
+-- where none of the first holds, the others decide
+pub lowest-after : (k : ℕ) (bs cs : List Bool) → lowest (suc k) bs ≡ 0 → lowest (suc k) (bs ++ cs) ≡ lowest (suc k + length bs) cs
+unfolding lowest
+lowest-after k [] cs e = rw add-zero
+lowest-after k (true ∷ bs) cs e = absurd (suc-zero k e)
+lowest-after k (false ∷ bs) cs e =
+    let next : suc k + 1 ≡ suc (suc k) = add-one (suc k) in
+    let place : suc (suc k) + length bs ≡ suc k + suc (length bs) = omega arith in
+    ap (λ (n : ℕ). lowest n (bs ++ cs)) next
+    ∙ lowest-after (suc k) bs cs (ap (λ (n : ℕ). lowest n bs) (sym next) ∙ e)
+    ∙ ap (λ (n : ℕ). lowest n cs) place
+
+-- where one of the first holds, it decides
+pub lowest-before : (k : ℕ) (bs cs : List Bool) → (lowest k bs ≡ 0 → ⊥) → lowest k (bs ++ cs) ≡ lowest k bs
+unfolding lowest
+lowest-before k [] cs h = absurd (h refl)
+lowest-before k (true ∷ bs) cs h = refl
+lowest-before k (false ∷ bs) cs h = lowest-before (k + 1) bs cs h
+
+-- where none holds, none of the first does
+pub lowest-first : (k : ℕ) (bs cs : List Bool) → lowest (suc k) (bs ++ cs) ≡ 0 → lowest (suc k) bs ≡ 0
+unfolding lowest
+lowest-first k [] cs e = refl
+lowest-first k (true ∷ bs) cs e = e
+lowest-first k (false ∷ bs) cs e =
+    let next : suc k + 1 ≡ suc (suc k) = add-one (suc k) in
+    ap (λ (n : ℕ). lowest n bs) next ∙ lowest-first (suc k) bs cs (ap (λ (n : ℕ). lowest n (bs ++ cs)) (sym next) ∙ e)
+
+-- ---- 2: the counts, and the bytes of codes and metadata
+pub counted : (f : Frames) (codes metadata : ℕ) → tooMany f codes metadata ≡ false → Modest f × (codes ≤ 16777216) × (metadata ≤ 65535)
+unfolding tooMany
+counted f codes metadata e =
+    let (frames, e1) = one-passed _ _ e in
+    let (items, e2) = one-passed _ _ e1 in
+    let (fods, e3) = one-passed _ _ e2 in
+    let (whispys, e4) = one-passed _ _ e3 in
+    let (stadiums, e5) = one-passed _ _ e4 in
+    let (coded, e6) = one-passed _ _ e5 in
+    let (body, e7) = one-passed _ _ e6 in (
+      record {
+        frames = ltb-false _ _ frames;
+        items = ltb-false _ _ items;
+        fods = ltb-false _ _ fods;
+        whispys = ltb-false _ _ whispys;
+        stadiums = ltb-false _ _ stadiums;
+      },
+      ltb-false _ _ coded,
+      ltb-false _ _ body,
+    )
+
+-- ---- 3 and 4: each store
+stores-of : (f : Frames) (c : Cells) → storesMisfit f c ≡ false → cellsExceed f c ≡ false → (family : Family) → Stored f family (cellsOf c family)
+unfolding cellsExceed
+stores-of f c m e family =
+    stored f family (cellsOf c family) (stores-fit f c m family) (family-none (λ family. exceeds f family (cellsOf c family)) e family)
+
+-- ---- 5: the offsets of the k-th of the families that have some
+offsets-none : (f : Frames) (o : Offsets) → offsetsMislead f o ≡ false → (k : ℕ) → k < 4 → misleads f (getD offsetFamilies k Item) (offsetsOf o (getD offsetFamilies k Item)) ≡ false
+unfolding offsetsMislead
+offsets-none f o e = rest-each Item (λ family. misleads f family (offsetsOf o family)) offsetFamilies e
+
+-- ---- all of them
+module _ (f : Frames) (s : Lent) (codes metadata : ℕ) (e : lowest 1 (refusals f s codes metadata) ≡ 0) where
+  pub accepted : Accepted f s
+  unfolding refusals
+  accepted =
+      let (new, e1) = passed _ _ _ e in
+      let (many, e2) = passed _ _ _ e1 in
+      let (misfit, e3) = passed _ _ _ e2 in
+      let (exceed, e4) = passed _ _ _ e3 in
+      let (mislead, e5) = passed _ _ _ e4 in
+      let (absent, e6) = passed _ _ _ e5 in
+      let (ports, e7) = passed _ _ _ e6 in
+      let at = offsets-none f (s .offsets) mislead in
+      record {
+        version = not-false (acceptedOf (f .version)) new;
+        modest = counted f codes metadata many .0;
+        ids = ids-fit f (s .cells) misfit;
+        stores = stores-of f (s .cells) misfit exceed;
+        items = placed f _ (s .offsets .items) (at 0 (lit< tt));
+        fods = placed f _ (s .offsets .fods) (at 1 (lit< tt));
+        whispys = placed f _ (s .offsets .whispys) (at 2 (lit< tt));
+        stadiums = placed f _ (s .offsets .stadiums) (at 3 (lit< tt));
+        presence = record { even = presence-even f (s .presence) absent; right = absent; covers = covered f (s .presence) absent };
+        ports = ported f ports;
+      }
+
+  pub few-bytes : (codes ≤ 16777216) × (metadata ≤ 65535)
+  unfolding refusals
+  few-bytes =
+      let (new, e1) = passed _ _ _ e in
+      let (many, e2) = passed _ _ _ e1 in
+      let (modest, coded, body) = counted f codes metadata many in
+      (coded, body)

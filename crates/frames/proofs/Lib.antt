@@ -1,0 +1,8 @@
+pub mod Tests
+pub mod SlotLaws
+pub mod PresenceLaws
+pub mod PortLaws
+pub mod CellLaws
+pub mod OffsetLaws
+pub mod Accepted
+pub mod Cases

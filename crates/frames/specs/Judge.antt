@@ -1,0 +1,116 @@
+-- Refusals 1 to 7: what is judged of a frame input and the stores lent with it.
+-- Assumes nothing.
+use Prim.Native.Nat.{ℕ, zero, suc, _+_, _*_, _/_, _^_}
+use mathlib.Core.Bool.{Bool, true, false, not, cond, _||_}
+use mathlib.Core.List.{List, [], _∷_, map}
+use lib.Dec.{ltb, leb, eqb}
+use lib.ListN.{length, getD, take, drop}
+use Rattle.format.specs.Version.{acceptedOf}
+unfoldable pub use Rattle.format.specs.Refusal.{oneOf}
+use Rattle.layout.specs.Columns.{hasFamily, widthsOf, sum}
+use Rattle.layout.specs.declared.columns.Family.{Family}
+use Rattle.frames.specs.Input.{portsOf, follows, portBytes, rowsOf, blocksOf}
+use Rattle.frames.specs.Stores.{Cells, Offsets, Lent, families, offsetFamilies, cellsOf, offsetsOf}
+use Rattle.frames.specs.declared.input.PortColumn.{PortColumn}
+use Rattle.frames.specs.declared.input.Frames.{Frames}
+
+-- 1: version above 3.18.0
+abbrev pub tooNew : Frames → Bool
+tooNew f = not (acceptedOf (f .version))
+
+-- 2: a count exceeds its maximum; those of codes and metadata are bytes
+unfoldable pub tooMany : Frames → ℕ → ℕ → Bool
+tooMany f codes metadata =
+    oneOf
+    (ltb 1048576 (f .counts .frames)
+    ∷ ltb 4194304 (f .counts .items)
+    ∷ ltb 1048576 (f .counts .fods)
+    ∷ ltb 1048576 (f .counts .whispys)
+    ∷ ltb 1048576 (f .counts .stadiums)
+    ∷ ltb 16777216 codes
+    ∷ ltb 65535 metadata
+    ∷ [])
+
+-- 3: a cell store's length is not columns of this version times rows (times slots); ids is one column
+unfoldable pub misfits : Frames → Family → List ℕ → Bool
+misfits f family store = not (eqb (length store) (blocksOf f family * (length (widthsOf family (f .version)) * rowsOf f family)))
+
+unfoldable pub storesMisfit : Frames → Cells → Bool
+storesMisfit f c = oneOf (not (eqb (length (c .ids)) (f .counts .frames)) ∷ map (λ family. misfits f family (cellsOf c family)) families)
+
+-- 4: a cell exceeds its width, absent players' rows included
+abbrev pub over : ℕ → ℕ → Bool
+over width cell = leb (256 ^ width) cell
+
+unfoldable pub columnsExceed : List ℕ → ℕ → List ℕ → Bool
+columnsExceed [] rows cells = false
+columnsExceed (w ∷ ws) rows cells = oneOf (map (over w) (take rows cells)) || columnsExceed ws rows (drop rows cells)
+
+unfoldable pub blocksExceed : ℕ → List ℕ → ℕ → List ℕ → Bool
+blocksExceed zero ws rows cells = false
+blocksExceed (suc n) ws rows cells = columnsExceed ws rows cells || blocksExceed n ws rows (drop (length ws * rows) cells)
+
+unfoldable pub exceeds : Frames → Family → List ℕ → Bool
+exceeds f family store = blocksExceed (blocksOf f family) (widthsOf family (f .version)) (rowsOf f family) store
+
+unfoldable pub cellsExceed : Frames → Cells → Bool
+cellsExceed f c = oneOf (map (λ family. exceeds f family (cellsOf c family)) families)
+
+-- 5: offsets: not frames + 1 entries, first not 0, one falls, or last not rows; or offsets or rows given to a family that the version lacks
+unfoldable pub falls : List ℕ → Bool
+falls [] = false
+falls (a ∷ []) = false
+falls (a ∷ b ∷ os) = ltb b a || falls (b ∷ os)
+
+unfoldable pub strays : ℕ → ℕ → List ℕ → Bool
+strays frames rows os =
+    oneOf (not (eqb (length os) (frames + 1)) ∷ not (eqb (getD os 0 0) 0) ∷ falls os ∷ not (eqb (getD os frames 0) rows) ∷ [])
+
+unfoldable pub given : ℕ → List ℕ → Bool
+given rows os = oneOf (not (eqb (length os) 0) ∷ not (eqb rows 0) ∷ [])
+
+unfoldable pub misleads : Frames → Family → List ℕ → Bool
+misleads f family os = cond (hasFamily (f .version) family) (strays (f .counts .frames) (rowsOf f family) os) (given (rowsOf f family) os)
+
+unfoldable pub offsetsMislead : Frames → Offsets → Bool
+offsetsMislead f o = oneOf (map (λ family. misleads f family (offsetsOf o family)) offsetFamilies)
+
+-- 6: presence bits neither empty nor ceil(frames/8) bytes, a follower's where there is none, or other bytes in all
+unfoldable pub uneven : ℕ → ℕ → Bool
+uneven frames len = not (eqb len 0 || eqb len ((frames + 7) / 8))
+
+unfoldable pub portUneven : ℕ → PortColumn → Bool
+portUneven frames p =
+    oneOf
+    (uneven frames (p .«leader_presence»)
+    ∷ cond (follows p) (uneven frames (p .«follower_presence»)) (not (eqb (p .«follower_presence») 0))
+    ∷ [])
+
+unfoldable pub portsUneven : Frames → Bool
+portsUneven f = oneOf (map (portUneven (f .counts .frames)) (portsOf f))
+
+unfoldable pub presenceWrong : Frames → List ℕ → Bool
+presenceWrong f bits = oneOf (portsUneven f ∷ not (eqb (length bits) (sum (map portBytes (portsOf f)))) ∷ [])
+
+-- 7: over four port columns, a port above 3, or a port twice
+unfoldable pub portNumbers : Frames → List ℕ
+portNumbers f = map (λ p. p .port) (portsOf f)
+
+unfoldable pub twice : List ℕ → Bool
+twice [] = false
+twice (n ∷ ns) = oneOf (map (eqb n) ns) || twice ns
+
+unfoldable pub portsWrong : Frames → Bool
+portsWrong f = oneOf (ltb 4 (f .«port_count») ∷ oneOf (map (ltb 3) (portNumbers f)) ∷ twice (portNumbers f) ∷ [])
+
+-- in their order: the lowest that applies is given
+unfoldable pub refusals : Frames → Lent → ℕ → ℕ → List Bool
+refusals f s codes metadata =
+    tooNew f
+    ∷ tooMany f codes metadata
+    ∷ storesMisfit f (s .cells)
+    ∷ cellsExceed f (s .cells)
+    ∷ offsetsMislead f (s .offsets)
+    ∷ presenceWrong f (s .presence)
+    ∷ portsWrong f
+    ∷ []

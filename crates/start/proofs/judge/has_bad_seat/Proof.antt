@@ -1,0 +1,64 @@
+-- `start::judge::has_bad_seat` meets its contract: the seats that are left answer for all.
+-- Assumes nothing.
+use mathlib.Core.Path.{_≡_, refl}
+use mathlib.Core.List.{map}
+use Prim.Native.Nat.{_-_, _≤_}
+use native.Mathlib.Omega.{arith}
+use lib.ListN.{drop}
+use Rattle.start.specs.Refusal.{oneOf, badSeat}
+use Rattle.start.proofs.Refusals.{each-here, each-later, each-done}
+use Rattle.start.proofs.judge.has_bad_seat.Statement.{statement}
+use Rattle.start.proofs.judge.has_bad_seat.Tie as tie
+
+abbrev Inv-loop : tie.InvT-loop
+Inv-loop v seats n₀ n = (n ≤ 4) × (oneOf (map (badSeat v) (drop n seats)) ≡ oneOf (map (badSeat v) seats))
+
+abbrev μ-loop : tie.MeasureT-loop
+μ-loop v seats n₀ n = 4 - n
+
+loop-holds : tie.Need-loop-holds Inv-loop μ-loop
+loop-holds c = (omega arith, refl)
+
+mul-p : tie.Need-mul-p Inv-loop μ-loop
+mul-p c = omega arith
+
+array-copy-out-p : tie.Need-array-copy-out-p Inv-loop μ-loop
+array-copy-out-p c = omega arith
+
+is-bad-seat-requires : tie.Need-is-bad-seat-requires Inv-loop μ-loop
+is-bad-seat-requires c κs = tt
+
+returns : tie.Need-returns Inv-loop μ-loop
+returns c =
+    let l = c .before .before .before .before .loop in
+    each-here _ _ (l .n) _ (l .inv .1) _ (omega arith) _ (c .before .is-bad-seat .ensures) (c .if1 .taken)
+
+add-n : tie.Need-add-n Inv-loop μ-loop
+add-n c = omega arith
+
+loop-less : tie.Need-loop-less Inv-loop μ-loop
+loop-less c = omega arith
+
+loop-again : tie.Need-loop-again Inv-loop μ-loop
+loop-again c =
+    let l = c .before .before .before .before .loop in
+    (omega arith, each-later _ _ (l .n) _ (l .inv .1) _ (omega arith) _ (c .before .is-bad-seat .ensures) (c .if1 .left))
+
+returns-2 : tie.Need-returns-2 Inv-loop μ-loop
+returns-2 c = each-done _ _ (c .before .loop .n) _ (c .before .loop .inv .1) (omega arith)
+
+pub has-bad-seat-spec : {M : Type 1} → statement M
+has-bad-seat-spec =
+    tie.close
+    (tie.spec
+    Inv-loop
+    μ-loop
+    loop-holds
+    mul-p
+    array-copy-out-p
+    is-bad-seat-requires
+    returns
+    add-n
+    loop-less
+    loop-again
+    returns-2)

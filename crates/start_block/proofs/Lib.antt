@@ -1,0 +1,4 @@
+pub mod Seats
+pub mod Parts
+pub mod Blocks
+pub mod Cases

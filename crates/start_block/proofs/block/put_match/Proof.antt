@@ -1,0 +1,57 @@
+-- `start_block::block::put_match` meets its contract.
+-- Assumes nothing.
+use mathlib.Core.Path.{sym, _∙_}
+use native.Mathlib.Omega.{arith}
+use borrow.Author.Needs.{needs}
+use Rattle.wire.proofs.Writers.{wrote-as}
+use Rattle.start_block.specs.Block.{matchFields}
+use Rattle.start.proofs.Lengths.{long-enough}
+use Rattle.patch.proofs.Patches.{room-number, patched-then, patched-one, patched-on, patched-off, ended}
+use Rattle.start.proofs.Refusals.{short-text}
+use Rattle.start_block.proofs.block.put_match.Statement.{statement}
+use Rattle.start_block.proofs.block.put_match.Tie as tie
+
+add-ended : tie.Need-add-ended
+add-ended c =
+    let on = sym (c .before .before .gte .ensures) ∙ c .before .if1 .taken in
+    omega (arith, short-text _ 3 14 50 _ (c .before .before .before .before .pre .1) on)
+
+put-filled-requires : tie.Need-put-filled-requires
+put-filled-requires c κs =
+    let on = sym (c .before .before .before .gte .ensures) ∙ c .before .before .if1 .taken in
+    omega (arith, long-enough _ 0 on, short-text _ 3 14 50 _ (c .before .before .before .before .before .pre .1) on)
+
+put-u32-requires : tie.Need-put-u32-requires
+put-u32-requires c κs =
+    let on = sym (c .before .before .before .before .before .before .before .gte .ensures) ∙ c .before .before .before .before .before .before .if1 .taken in
+    room-number _ _ 4 _ (omega (arith, long-enough _ 0 on))
+
+put-u32-requires-2 : tie.Need-put-u32-requires-2
+put-u32-requires-2 c κs =
+    let on = sym (c .before .before .before .before .before .before .before .before .before .before .before .gte .ensures) ∙ c .before .before .before .before .before .before .before .before .before .before .if1 .taken in
+    room-number _ _ 4 _ (omega (arith, long-enough _ 0 on))
+
+returns : tie.Need-returns
+unfolding matchFields
+returns c =
+    let c1 = c .before .before .before .before .before .before .before .before .before .before in
+    patched-on _ _ (c1 .before .before .before .before .gte .ensures) (c1 .before .before .before .if1 .taken)
+    (patched-then (patched-one (wrote-as (ended (c1 .before .before .before .before .before .before .args .m .id)) (c1 .put-filled .ensures)))
+    (patched-then (patched-one (c .before .before .before .before .before .before .put-u32 .ensures)) (patched-one (c .before .before .put-u322 .ensures))))
+
+returns-2 : tie.Need-returns-2
+unfolding matchFields
+returns-2 c = patched-off _ _ _ _ (c .before .gte .ensures) (c .if1 .left)
+
+pub put-match-spec : {M : Type 1} → statement M
+put-match-spec =
+    tie.close
+    (tie.spec
+    (λ c κs. search needs)
+    add-ended
+    put-filled-requires
+    put-u32-requires
+    put-u32-requires-2
+    (λ c. search needs)
+    returns
+    returns-2)

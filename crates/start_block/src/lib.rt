@@ -1,0 +1,3 @@
+// The start block: a template, copied into the output and patched there.
+pub mod block;
+pub mod seat;
