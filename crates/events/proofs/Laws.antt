@@ -9,8 +9,8 @@ use native.Mathlib.Numerals.{add-one}
 use native.Mathlib.Omega.{arith}
 use lib.ListN.{length, getD, take}
 use lib.Seq.{length-take-le}
-use Rattle.wire.specs.Wire.{ranged, keep, Room, Wrote}
-use Rattle.wire.proofs.Writers.{wrote-then, wrote-as, room-as}
+use Rattle.wire.specs.Wire.{ranged, keep, Wrote}
+use Rattle.wire.proofs.Writers.{wrote-then}
 use Rattle.format.specs.File.{Ev, eventBytes, eventsBytes}
 use Rattle.format.proofs.Files.{events-append, events-ranged, events-keep}
 use Rattle.layout.specs.Columns.{Narrow, hasFamily, widthsOf, sum}

@@ -1,257 +1,213 @@
--- How many bytes the events of the frames take: by counts of frames, of rows, and of players present.
+-- The length of the frames' events: a sum over the frames, family by family.
 -- Assumes nothing.
-use Prim.Native.Nat.{ℕ, zero, suc, _+_, _-_, _*_, _≤_, _<_}
 use mathlib.Core.Path.{_≡_, refl, sym, ap, ap₂, _∙_}
 use mathlib.Core.Bool.{Bool, true, false, cond}
 use mathlib.Core.List.{List, [], _∷_, _++_}
-use native.Mathlib.Nat.{add-zero, zero-add, zero-mul, mul-zero, suc-mul, add-mul, one-mul}
+use Prim.Native.Nat.{ℕ, zero, suc, _+_, _-_, _*_, _≤_, _<_}
+use native.Mathlib.Nat.{suc-mul, zero-mul, mul-zero, one-mul, add-mul, add-zero, zero-add}
 use native.Mathlib.Numerals.{add-one}
 use native.Mathlib.Omega.{arith}
 use lib.ListN.{length, getD, length-append}
-use Rattle.wire.specs.Wire.{keep, ranged}
+use Rattle.wire.specs.Wire.{ranged, keep}
 use Rattle.wire.proofs.Laws.{length-ranged}
 use Rattle.format.specs.File.{Ev, eventBytes, eventsBytes}
-use Rattle.format.proofs.Files.{events-nil, events-cons, events-append, events-ranged, events-keep}
-use Rattle.layout.specs.Columns.{hasFamily, widthsOf, sum}
+use Rattle.format.proofs.Files.{events-append, events-ranged}
+use Rattle.layout.specs.Columns.{hasFamily}
 use Rattle.layout.specs.Payloads.{headSize, recordSize}
 use Rattle.layout.specs.declared.columns.Family.{Family}
 use Rattle.layout.specs.declared.columns.Family.the-variants.{Pre, Post, FrameStart, Item, FrameEnd, FodPlatform, DreamlandWhispy, StadiumTransformation}
-use Rattle.frames.specs.Input.{Slot, slotsOf, noSlot, rowsOf}
+use Rattle.frames.specs.Input.{Slot, noSlot, slotsOf, rowsOf}
 use Rattle.frames.specs.Stores.{Lent, offsetsOf}
-use Rattle.frames.specs.Presence.{countFrom, presentAt, presentIn, playersPresent}
+use Rattle.frames.specs.Presence.{presentAt, countFrom, playersPresent}
 use Rattle.frames.specs.declared.input.Frames.{Frames}
 use Rattle.events.specs.Events.{headOf, playerOf, rowOf, idOf, oneEvent, rowEvents, playerEvent, playerEvents, frameEvents, framesEvents}
-use Rattle.events.proofs.Listed.{length-payload}
+use Rattle.events.specs.Framed.{Rising, RisingIn, Framed}
+use Rattle.events.specs.Length.{eventSize, framesLength}
+use Rattle.events.proofs.Laws.{events-one}
+use Rattle.events.proofs.Sizes.{plain-size, player-size}
 
--- ---- sums over a range
+-- ---- sums over a range: g i + g (i + 1) + .., n of them
+unfoldable summed : (ℕ → ℕ) → ℕ → ℕ → ℕ
+summed g i zero = 0
+summed g i (suc n) = g i + summed g (i + 1) n
 
-unfoldable pub total : (ℕ → ℕ) → ℕ → ℕ → ℕ
-total g i zero = 0
-total g i (suc n) = g i + total g (i + 1) n
+length-summed : {A : Type 0} (F : ℕ → List A) (i n : ℕ) → length (ranged F i n) ≡ summed (λ j. length (F j)) i n
+unfolding ranged summed
+length-summed F i zero = refl
+length-summed F i (suc n) = length-append (F i) (ranged F (i + 1) n) ∙ ap (λ (k : ℕ). length (F i) + k) (length-summed F (i + 1) n)
 
-total-add : (g h : ℕ → ℕ) (i n : ℕ) → total (λ j. g j + h j) i n ≡ total g i n + total h i n
-unfolding total
-total-add g h i zero = refl
-total-add g h i (suc n) = let e = total-add g h (i + 1) n in omega arith
+summed-same : (g h : ℕ → ℕ) (i n : ℕ) → ((j : ℕ) → g j ≡ h j) → summed g i n ≡ summed h i n
+unfolding summed
+summed-same g h i zero e = refl
+summed-same g h i (suc n) e = ap₂ (λ (a b : ℕ). a + b) (e i) (summed-same g h (i + 1) n e)
 
-total-same : (g : ℕ → ℕ) (s i n : ℕ) → ((j : ℕ) → i ≤ j → j < i + n → g j ≡ s) → total g i n ≡ n * s
-unfolding total
-total-same g s i zero h = sym (zero-mul s)
-total-same g s i (suc n) h =
-    let first = h i (omega arith) (omega arith) in
-    let rest = total-same g s (i + 1) n (λ j a b. h j (omega arith) (omega arith)) in
-    let e = suc-mul n s in
+summed-add : (g h : ℕ → ℕ) (i n : ℕ) → summed (λ j. g j + h j) i n ≡ summed g i n + summed h i n
+unfolding summed
+summed-add g h i zero = refl
+summed-add g h i (suc n) = let e = summed-add g h (i + 1) n in omega arith
+
+summed-both : (g h : ℕ → ℕ) (i n : ℕ) {a b : ℕ} → summed g i n ≡ a → summed h i n ≡ b → summed (λ j. g j + h j) i n ≡ a + b
+summed-both g h i n p q = summed-add g h i n ∙ ap₂ (λ (a b : ℕ). a + b) p q
+
+summed-shift : (g : ℕ → ℕ) (i n : ℕ) → summed g (i + 1) n ≡ summed (λ j. g (j + 1)) i n
+unfolding summed
+summed-shift g i zero = refl
+summed-shift g i (suc n) = ap (λ (k : ℕ). g (i + 1) + k) (summed-shift g (i + 1) n)
+
+summed-mul : (g : ℕ → ℕ) (c i n : ℕ) → summed (λ j. g j * c) i n ≡ summed g i n * c
+unfolding summed
+summed-mul g c i zero = sym (zero-mul c)
+summed-mul g c i (suc n) = ap (λ (k : ℕ). g i * c + k) (summed-mul g c (i + 1) n) ∙ sym (add-mul (g i) (summed g (i + 1) n) c)
+
+summed-const : (c i n : ℕ) → summed (λ j. c) i n ≡ n * c
+unfolding summed
+summed-const c i zero = sym (zero-mul c)
+summed-const c i (suc n) = let e = summed-const c (i + 1) n in let m = suc-mul n c in omega arith
+
+-- what rises from offset to offset is the last less the first
+summed-rise : (os : List ℕ) (i n : ℕ) → ((j : ℕ) → j < i + n → getD os j 0 ≤ getD os (j + 1) 0)
+    → summed (λ j. getD os (j + 1) 0 - getD os j 0) i n + getD os i 0 ≡ getD os (i + n) 0
+unfolding summed
+summed-rise os i zero h = let e = ap (λ (k : ℕ). getD os k 0) (add-zero i) in omega arith
+summed-rise os i (suc n) h =
+    let k : i + 1 + n ≡ i + suc n = omega arith in
+    let e = summed-rise os (i + 1) n (λ j l. h j (omega arith)) in
+    let up = h i (omega arith) in
+    let same = ap (λ (j : ℕ). getD os j 0) k in
     omega arith
 
-total-as : (g h : ℕ → ℕ) (i n : ℕ) → ((j : ℕ) → i ≤ j → j < i + n → g j ≡ h j) → total g i n ≡ total h i n
-unfolding total
-total-as g h i zero e = refl
-total-as g h i (suc n) e = ap₂ _+_ (e i (omega arith) (omega arith)) (total-as g h (i + 1) n (λ j a b. e j (omega arith) (omega arith)))
+-- ---- players: those of a frame, and those of all frames
+unfoldable overall : (Slot → ℕ) → List Slot → ℕ
+overall g [] = 0
+overall g (s ∷ ss) = g s + overall g ss
 
-total-times : (g : ℕ → ℕ) (s i n : ℕ) → total (λ j. g j * s) i n ≡ total g i n * s
-unfolding total
-total-times g s i zero = sym (zero-mul s)
-total-times g s i (suc n) = ap (λ (x : ℕ). g i * s + x) (total-times g s (i + 1) n) ∙ sym (add-mul (g i) (total g (i + 1) n) s)
+overall-is : (g : Slot → ℕ) (ss : List Slot) → summed (λ k. g (getD ss k noSlot)) 0 (length ss) ≡ overall g ss
+unfolding summed overall
+overall-is g [] = refl
+overall-is g (s ∷ ss) =
+    ap (λ (k : ℕ). g s + k)
+    (summed-shift (λ k. g (getD (s ∷ ss) k noSlot)) 0 (length ss)
+    ∙ summed-same (λ k. g (getD (s ∷ ss) (k + 1) noSlot)) (λ k. g (getD ss k noSlot)) 0 (length ss) (λ k. rw (add-one k))
+    ∙ overall-is g ss)
 
--- what rises from index to index adds up to its end
-total-rise : (o : ℕ → ℕ) (i n : ℕ) → ((j : ℕ) → i ≤ j → j < i + n → o j ≤ o (j + 1)) → o i + total (λ j. o (j + 1) - o j) i n ≡ o (i + n)
-unfolding total
-total-rise o i zero h = rw (add-zero, add-zero)
-total-rise o i (suc n) h =
-    let first = h i (omega arith) (omega arith) in
-    let rest = total-rise o (i + 1) n (λ j a b. h j (omega arith) (omega arith)) in
-    let e : i + 1 + n ≡ i + suc n = omega arith in
-    let r : o (i + 1) + total (λ j. o (j + 1) - o j) (i + 1) n ≡ o (i + suc n) = rest ∙ ap o e in
-    omega arith
+abbrev here : List ℕ → ℕ → Slot → ℕ
+here bits i s = cond (presentAt bits s i) 1 0
 
--- ---- counts
+count-summed : (p : ℕ → Bool) (i n : ℕ) → summed (λ j. cond (p j) 1 0) i n ≡ countFrom p i n
+unfolding summed countFrom
+count-summed p i zero = refl
+count-summed p i (suc n) = ap (λ (k : ℕ). cond (p i) 1 0 + k) (count-summed p (i + 1) n)
 
-count-total : (p : ℕ → Bool) (i n : ℕ) → total (λ j. cond (p j) 1 0) i n ≡ countFrom p i n
-unfolding total countFrom
-count-total p i zero = refl
-count-total p i (suc n) = ap (λ (x : ℕ). cond (p i) 1 0 + x) (count-total p (i + 1) n)
+players-summed : (bits : List ℕ) (ss : List Slot) (n : ℕ) → summed (λ i. overall (here bits i) ss) 0 n ≡ playersPresent bits ss n
+unfolding overall playersPresent
+players-summed bits [] n = summed-const 0 0 n ∙ mul-zero n
+players-summed bits (s ∷ ss) n = summed-both (λ i. here bits i s) (λ i. overall (here bits i) ss) 0 n (count-summed (presentAt bits s) 0 n) (players-summed bits ss n)
 
-count-shift : (p : ℕ → Bool) (i n : ℕ) → countFrom p (i + 1) n ≡ countFrom (λ k. p (k + 1)) i n
-unfolding countFrom
-count-shift p i zero = refl
-count-shift p i (suc n) = ap (λ (x : ℕ). cond (p (i + 1)) 1 0 + x) (count-shift p (i + 1) n)
+-- ---- the length of what is kept
+kept-one : (b : Bool) (e : Ev) (n : ℕ) → length (eventBytes e) ≡ n → length (eventsBytes (keep b (e ∷ []))) ≡ cond b n 0
+unfolding keep eventsBytes
+kept-one true e n h = ap length (events-one e) ∙ h
+kept-one false e n h = refl
 
--- the players of each frame, added up over the frames, are those of each slot, added up over the slots
-abbrev at : List ℕ → List Slot → ℕ → ℕ → Bool
-at bits slots i k = presentAt bits (getD slots k noSlot) i
+kept-rows : (b : Bool) (F : ℕ → Ev) (a n s : ℕ) → ((j : ℕ) → length (eventBytes (F j)) ≡ s) → length (eventsBytes (keep b (ranged (λ j. F j ∷ []) a n))) ≡ n * cond b s 0
+unfolding keep eventsBytes
+kept-rows true F a n s h =
+    ap length (events-ranged (λ j. F j ∷ []) a n) ∙ length-ranged (λ j. eventsBytes (F j ∷ [])) s (λ j. ap length (events-one (F j)) ∙ h j) a n
+kept-rows false F a n s h = sym (mul-zero n)
 
-count-tail : (bits : List ℕ) (s : Slot) (ss : List Slot) (i k n : ℕ) → countFrom (λ j. at bits (s ∷ ss) i (j + 1)) k n ≡ countFrom (at bits ss i) k n
-unfolding countFrom
-count-tail bits s ss i k zero = refl
-count-tail bits s ss i k (suc n) = ap₂ (λ (a : Slot) (x : ℕ). cond (presentAt bits a i) 1 0 + x) (ap (λ (j : ℕ). getD (s ∷ ss) j noSlot) (add-one k)) (count-tail bits s ss i (k + 1) n)
+cond-mul : (b : Bool) (s : ℕ) → cond b s 0 ≡ cond b 1 0 * s
+cond-mul true s = sym (one-mul s)
+cond-mul false s = sym (zero-mul s)
 
-players-swap : (bits : List ℕ) (slots : List Slot) (n : ℕ) → total (λ i. countFrom (at bits slots i) 0 (length slots)) 0 n ≡ playersPresent bits slots n
-unfolding playersPresent countFrom
-players-swap bits [] n = total-same (λ i. 0) 0 0 n (λ j a b. refl) ∙ omega arith
-players-swap bits (s ∷ ss) n =
-    total-as _ (λ i. cond (presentAt bits s i) 1 0 + countFrom (at bits ss i) 0 (length ss)) 0 n
-    (λ j a b. ap (λ (x : ℕ). cond (presentAt bits s j) 1 0 + x) (count-shift (at bits (s ∷ ss) j) 0 (length ss) ∙ count-tail bits s ss j 0 (length ss)))
-    ∙ total-add (λ i. cond (presentAt bits s i) 1 0) (λ i. countFrom (at bits ss i) 0 (length ss)) 0 n
-    ∙ ap₂ _+_ (count-total (presentAt bits s) 0 n) (players-swap bits ss n)
+both-length : (xs ys : List Ev) {a b : ℕ} → length (eventsBytes xs) ≡ a → length (eventsBytes ys) ≡ b → length (eventsBytes (xs ++ ys)) ≡ a + b
+both-length xs ys p q = ap length (events-append xs ys) ∙ length-append (eventsBytes xs) (eventsBytes ys) ∙ ap₂ (λ (a b : ℕ). a + b) p q
 
--- ---- the bytes of some events
+-- ---- the parts of a frame
+module _ (f : Frames) (lent : Lent) (family : Family) where
+  abbrev size : ℕ
+  size = 1 + recordSize family (f .version)
 
-length-keep : {A : Type 0} (b : Bool) (xs : List A) → length (keep b xs) ≡ cond b (length xs) 0
-unfolding keep
-length-keep true xs = refl
-length-keep false xs = refl
+  one-length : headSize family ≡ 4 → (i : ℕ) → length (eventsBytes (oneEvent f lent family i)) ≡ eventSize (f .version) family
+  unfolding oneEvent
+  one-length k i = kept-one (hasFamily (f .version) family) _ size (plain-size f lent family 0 i k (idOf lent i))
 
-pub length-event : (e : Ev) → length (eventsBytes (e ∷ [])) ≡ 1 + length (e .payload)
-unfolding eventsBytes
-length-event e = simp length-append (omega arith)
+  abbrev rowsAt : ℕ → ℕ
+  rowsAt i = getD (offsetsOf (lent .offsets) family) (i + 1) 0 - getD (offsetsOf (lent .offsets) family) i 0
 
--- one after another, over a range
-length-total : (f : ℕ → List Ev) (i n : ℕ) → length (eventsBytes (ranged f i n)) ≡ total (λ j. length (eventsBytes (f j))) i n
-unfolding eventsBytes ranged total
-length-total f i zero = refl
-length-total f i (suc n) = ap length (events-append (f i) (ranged f (i + 1) n)) ∙ length-append (eventsBytes (f i)) (eventsBytes (ranged f (i + 1) n)) ∙ ap (λ (x : ℕ). length (eventsBytes (f i)) + x) (length-total f (i + 1) n)
+  rows-length : headSize family ≡ 4 → (i : ℕ) → length (eventsBytes (rowEvents f lent family i)) ≡ rowsAt i * eventSize (f .version) family
+  unfolding rowEvents
+  rows-length k i =
+      kept-rows (hasFamily (f .version) family) (λ j. rowOf f lent family (headOf family (idOf lent i)) 0 j) _ (rowsAt i) size
+      (λ j. plain-size f lent family 0 j k (idOf lent i))
 
-length-kept : (b : Bool) (es : List Ev) (n : ℕ) → length (eventsBytes es) ≡ n → length (eventsBytes (keep b es)) ≡ cond b n 0
-unfolding keep
-length-kept true es n e = e
-length-kept false es n e = ap length events-nil
+  abbrev playersAt : ℕ → ℕ
+  playersAt i = overall (here (lent .presence) i) (slotsOf f)
 
--- those kept by a test, each of one size
-length-counted : (p : ℕ → Bool) (e : ℕ → Ev) (s i n : ℕ) → ((j : ℕ) → length (eventsBytes (e j ∷ [])) ≡ s)
-    → length (eventsBytes (ranged (λ j. keep (p j) (e j ∷ [])) i n)) ≡ countFrom p i n * s
-length-counted p e s i n h =
-    length-total (λ j. keep (p j) (e j ∷ [])) i n
-    ∙ total-as _ (λ j. cond (p j) 1 0 * s) i n (λ j a b. length-kept (p j) (e j ∷ []) s (h j) ∙ times (p j))
-    ∙ total-times (λ j. cond (p j) 1 0) s i n
-    ∙ ap (λ (x : ℕ). x * s) (count-total p i n)
-  where
-    times : (b : Bool) → cond b s 0 ≡ cond b 1 0 * s
-    times true = sym (one-mul s)
-    times false = sym (zero-mul s)
+  players-length : headSize family ≡ 6 → (i : ℕ) → length (eventsBytes (playerEvents f lent family i)) ≡ playersAt i * size
+  unfolding playerEvents
+  players-length k i =
+      let ss = slotsOf f in
+      let at : ℕ → ℕ = λ j. here (lent .presence) i (getD ss j noSlot) in
+      ap length (events-ranged (playerEvent f lent family i) 0 (length ss))
+      ∙ length-summed (λ j. eventsBytes (playerEvent f lent family i j)) 0 (length ss)
+      ∙ summed-same (λ j. length (eventsBytes (playerEvent f lent family i j))) (λ j. at j * size) 0 (length ss)
+      (λ j. kept-one (presentAt (lent .presence) (getD ss j noSlot) i) _ size (player-size f lent family j i k (idOf lent i) (getD ss j noSlot))
+      ∙ cond-mul (presentAt (lent .presence) (getD ss j noSlot) i) size)
+      ∙ summed-mul at size 0 (length ss)
+      ∙ ap (λ (n : ℕ). n * size) (overall-is (here (lent .presence) i) ss)
 
-parts : (xs ys : List Ev) (a b : ℕ) → length (eventsBytes xs) ≡ a → length (eventsBytes ys) ≡ b → length (eventsBytes (xs ++ ys)) ≡ a + b
-parts xs ys a b p q = ap length (events-append xs ys) ∙ length-append (eventsBytes xs) (eventsBytes ys) ∙ ap₂ _+_ p q
+  -- and over all frames
+  one-all : summed (λ i. eventSize (f .version) family) 0 (f .counts .frames) ≡ f .counts .frames * eventSize (f .version) family
+  one-all = summed-const (eventSize (f .version) family) 0 (f .counts .frames)
+
+  players-all : summed (λ i. playersAt i * size) 0 (f .counts .frames) ≡ playersPresent (lent .presence) (slotsOf f) (f .counts .frames) * size
+  players-all = summed-mul playersAt size 0 (f .counts .frames) ∙ ap (λ (n : ℕ). n * size) (players-summed (lent .presence) (slotsOf f) (f .counts .frames))
+
+  rows-all : RisingIn f lent family → summed (λ i. rowsAt i * eventSize (f .version) family) 0 (f .counts .frames) ≡ rowsOf f family * eventSize (f .version) family
+  rows-all r = summed-mul rowsAt (eventSize (f .version) family) 0 (f .counts .frames) ∙ go (hasFamily (f .version) family) refl
+    where
+      go : (b : Bool) → hasFamily (f .version) family ≡ b
+          → summed rowsAt 0 (f .counts .frames) * cond (hasFamily (f .version) family) size 0 ≡ rowsOf f family * cond (hasFamily (f .version) family) size 0
+      go true e =
+          let o = r e in
+          let t = summed-rise (offsetsOf (lent .offsets) family) 0 (f .counts .frames) (λ j l. o .rise j (omega arith)) in
+          let n : summed rowsAt 0 (f .counts .frames) ≡ rowsOf f family = omega (arith, t, o .first, o .last, ap (λ (k : ℕ). getD (offsetsOf (lent .offsets) family) k 0) (zero-add (f .counts .frames))) in
+          ap (λ (k : ℕ). k * cond (hasFamily (f .version) family) size 0) n
+      go false e = rw e (mul-zero (summed rowsAt 0 (f .counts .frames)) ∙ sym (mul-zero (rowsOf f family)))
 
 module _ (f : Frames) (lent : Lent) where
-  -- a record of a family, with its code
-  abbrev pub eventSize : Family → ℕ
-  eventSize family = 1 + recordSize family (f .version)
-
-  -- n records of a family, where the version has it
-  abbrev pub share : Family → ℕ → ℕ
-  share family n = cond (hasFamily (f .version) family) (n * eventSize family) 0
-
-  plain-size : (family : Family) (id b row : ℕ) → headSize family ≡ 4 → length (eventsBytes (rowOf f lent family (headOf family id) b row ∷ [])) ≡ eventSize family
-  plain-size family id b row e =
-      length-event (rowOf f lent family (headOf family id) b row)
-      ∙ ap (λ (n : ℕ). 1 + n) (length-payload (headOf family id) _ _ _ _ false refl ∙ ap (λ (n : ℕ). n + sum (widthsOf family (f .version))) (sym e))
-
-  seated-size : (family : Family) (id b row k : ℕ) → headSize family ≡ 6 → length (eventsBytes (rowOf f lent family (playerOf family id (getD (slotsOf f) k noSlot)) b row ∷ [])) ≡ eventSize family
-  seated-size family id b row k e =
-      length-event (rowOf f lent family (playerOf family id (getD (slotsOf f) k noSlot)) b row)
-      ∙ ap (λ (n : ℕ). 1 + n) (length-payload (playerOf family id (getD (slotsOf f) k noSlot)) _ _ _ _ true refl ∙ ap (λ (n : ℕ). n + sum (widthsOf family (f .version))) (sym e))
-
-  one-size : (family : Family) (i : ℕ) → headSize family ≡ 4 → length (eventsBytes (oneEvent f lent family i)) ≡ cond (hasFamily (f .version) family) (eventSize family) 0
-  unfolding oneEvent
-  one-size family i e = length-kept (hasFamily (f .version) family) _ (eventSize family) (plain-size family (idOf lent i) 0 i e)
-
-  rows-size : (family : Family) (i : ℕ) → headSize family ≡ 4
-      → let o = offsetsOf (lent .offsets) family in
-      length (eventsBytes (rowEvents f lent family i)) ≡ cond (hasFamily (f .version) family) ((getD o (i + 1) 0 - getD o i 0) * eventSize family) 0
-  unfolding rowEvents
-  rows-size family i e =
-      let o = offsetsOf (lent .offsets) family in
-      let n = getD o (i + 1) 0 - getD o i 0 in
-      length-kept (hasFamily (f .version) family) _ (n * eventSize family)
-      (length-total (λ j. rowOf f lent family (headOf family (idOf lent i)) 0 j ∷ []) (getD o i 0) n
-      ∙ total-same _ (eventSize family) (getD o i 0) n (λ j a b. plain-size family (idOf lent i) 0 j e))
-
-  players-size : (family : Family) (i : ℕ) → headSize family ≡ 6
-      → length (eventsBytes (playerEvents f lent family i)) ≡ countFrom (at (lent .presence) (slotsOf f) i) 0 (length (slotsOf f)) * eventSize family
-  unfolding playerEvents
-  players-size family i e =
-      length-counted (at (lent .presence) (slotsOf f) i) (λ k. rowOf f lent family (playerOf family (idOf lent i) (getD (slotsOf f) k noSlot)) k i) (eventSize family) 0 (length (slotsOf f))
-      (λ k. seated-size family (idOf lent i) k i k e)
-
-  -- ---- one frame: part by part
-  abbrev players : ℕ → ℕ
-  players i = countFrom (at (lent .presence) (slotsOf f) i) 0 (length (slotsOf f))
-
-  abbrev gap : Family → ℕ → ℕ
-  gap family i = let o = offsetsOf (lent .offsets) family in getD o (i + 1) 0 - getD o i 0
-
-  abbrev one : Family → ℕ → ℕ
-  one family i = cond (hasFamily (f .version) family) (eventSize family) 0
-
-  abbrev some : Family → ℕ → ℕ
-  some family i = cond (hasFamily (f .version) family) (gap family i * eventSize family) 0
-
-  frame-size : (i : ℕ)
-      → length (eventsBytes (frameEvents f lent i))
-      ≡ one FrameStart i + (players i * eventSize Pre + (some FodPlatform i + (some DreamlandWhispy i + (some StadiumTransformation i + (some Item i + (players i * eventSize Post + one FrameEnd i))))))
+  frame-length : (i : ℕ) → length (eventsBytes (frameEvents f lent i))
+      ≡ eventSize (f .version) FrameStart
+      + (playersAt f lent Pre i * size f lent Pre
+      + (rowsAt f lent FodPlatform i * eventSize (f .version) FodPlatform
+      + (rowsAt f lent DreamlandWhispy i * eventSize (f .version) DreamlandWhispy
+      + (rowsAt f lent StadiumTransformation i * eventSize (f .version) StadiumTransformation
+      + (rowsAt f lent Item i * eventSize (f .version) Item
+      + (playersAt f lent Post i * size f lent Post
+      + eventSize (f .version) FrameEnd))))))
   unfolding frameEvents
-  frame-size i =
-      parts _ _ _ _ (one-size FrameStart i refl)
-      (parts _ _ _ _ (players-size Pre i refl)
-      (parts _ _ _ _ (rows-size FodPlatform i refl)
-      (parts _ _ _ _ (rows-size DreamlandWhispy i refl)
-      (parts _ _ _ _ (rows-size StadiumTransformation i refl)
-      (parts _ _ _ _ (rows-size Item i refl)
-      (parts _ _ _ _ (players-size Post i refl) (one-size FrameEnd i refl)))))))
+  frame-length i =
+      both-length _ _ (one-length f lent FrameStart refl i)
+      (both-length _ _ (players-length f lent Pre refl i)
+      (both-length _ _ (rows-length f lent FodPlatform refl i)
+      (both-length _ _ (rows-length f lent DreamlandWhispy refl i)
+      (both-length _ _ (rows-length f lent StadiumTransformation refl i)
+      (both-length _ _ (rows-length f lent Item refl i)
+      (both-length _ _ (players-length f lent Post refl i)
+      (one-length f lent FrameEnd refl i)))))))
 
-  -- ---- all frames
-  abbrev n : ℕ
-  n = f .counts .frames
-
-  ones : (family : Family) → total (one family) 0 n ≡ share family n
-  ones family = total-same (one family) (cond (hasFamily (f .version) family) (eventSize family) 0) 0 n (λ j a b. refl) ∙ go (hasFamily (f .version) family)
-    where
-      go : (b : Bool) → n * cond b (eventSize family) 0 ≡ cond b (n * eventSize family) 0
-      go true = refl
-      go false = mul-zero n
-
-  -- offsets that run from 0 to the rows, where the version has the family
-  abbrev pub Runs : Family → Type 0
-  Runs family =
-      let o = offsetsOf (lent .offsets) family in
-      hasFamily (f .version) family ≡ true → (getD o 0 0 ≡ 0) × ((i : ℕ) → i < n → getD o i 0 ≤ getD o (i + 1) 0) × (getD o n 0 ≡ rowsOf f family)
-
-  somes : (family : Family) → Runs family → total (some family) 0 n ≡ share family (rowsOf f family)
-  somes family r = go (hasFamily (f .version) family) refl
-    where
-      go : (b : Bool) → hasFamily (f .version) family ≡ b → total (λ i. cond b (gap family i * eventSize family) 0) 0 n ≡ cond b (rowsOf f family * eventSize family) 0
-      go true h =
-          let (zero-first, rises, last) = r h in
-          let o = offsetsOf (lent .offsets) family in
-          let sum-is = total-rise (λ j. getD o j 0) 0 n (λ j a b. rises j (omega arith)) in
-          let end : getD o (0 + n) 0 ≡ rowsOf f family = ap (λ (k : ℕ). getD o k 0) (zero-add n) ∙ last in
-          total-times (gap family) (eventSize family) 0 n ∙ ap (λ (x : ℕ). x * eventSize family) (omega arith)
-      go false h = total-same (λ i. 0) 0 0 n (λ j a b. refl) ∙ mul-zero n
-
-  everybody : (s : ℕ) → total (λ i. players i * s) 0 n ≡ playersPresent (lent .presence) (slotsOf f) n * s
-  everybody s = total-times players s 0 n ∙ ap (λ (x : ℕ). x * s) (players-swap (lent .presence) (slotsOf f) n)
-
-  -- the same formula of numbers, part by part, for n frames
-  abbrev pub framesSize : ℕ → ℕ
-  framesSize present =
-      share FrameStart n
-      + (present * eventSize Pre
-      + (share FodPlatform (rowsOf f FodPlatform)
-      + (share DreamlandWhispy (rowsOf f DreamlandWhispy)
-      + (share StadiumTransformation (rowsOf f StadiumTransformation) + (share Item (rowsOf f Item) + (present * eventSize Post + share FrameEnd n))))))
-
-  pub length-frames : Runs FodPlatform → Runs DreamlandWhispy → Runs StadiumTransformation → Runs Item
-      → length (eventsBytes (framesEvents f lent)) ≡ framesSize (playersPresent (lent .presence) (slotsOf f) n)
-  unfolding framesEvents
-  length-frames fod whispy stadium item =
-      length-total (frameEvents f lent) 0 n
-      ∙ total-as _ _ 0 n (λ j a b. frame-size j)
-      ∙ adds (one FrameStart) _ (ones FrameStart)
-      (adds (λ i. players i * eventSize Pre) _ (everybody (eventSize Pre))
-      (adds (some FodPlatform) _ (somes FodPlatform fod)
-      (adds (some DreamlandWhispy) _ (somes DreamlandWhispy whispy)
-      (adds (some StadiumTransformation) _ (somes StadiumTransformation stadium)
-      (adds (some Item) _ (somes Item item) (adds (λ i. players i * eventSize Post) (one FrameEnd) (everybody (eventSize Post)) (ones FrameEnd)))))))
-    where
-      adds : (g h : ℕ → ℕ) {x y : ℕ} → total g 0 n ≡ x → total h 0 n ≡ y → total (λ j. g j + h j) 0 n ≡ x + y
-      adds g h p q = total-add g h 0 n ∙ ap₂ _+_ p q
+  pub length-frames : Framed f lent → length (eventsBytes (framesEvents f lent)) ≡ framesLength f (lent .presence)
+  unfolding framesEvents framesLength
+  length-frames r =
+      let n = f .counts .frames in
+      ap length (events-ranged (frameEvents f lent) 0 n)
+      ∙ length-summed (λ i. eventsBytes (frameEvents f lent i)) 0 n
+      ∙ summed-same (λ i. length (eventsBytes (frameEvents f lent i))) _ 0 n frame-length
+      ∙ summed-both _ _ 0 n (one-all f lent FrameStart)
+      (summed-both _ _ 0 n (players-all f lent Pre)
+      (summed-both _ _ 0 n (rows-all f lent FodPlatform (r .fods))
+      (summed-both _ _ 0 n (rows-all f lent DreamlandWhispy (r .whispys))
+      (summed-both _ _ 0 n (rows-all f lent StadiumTransformation (r .stadiums))
+      (summed-both _ _ 0 n (rows-all f lent Item (r .items))
+      (summed-both _ _ 0 n (players-all f lent Post)
+      (one-all f lent FrameEnd)))))))

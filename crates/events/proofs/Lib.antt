@@ -1,3 +1,3 @@
 pub mod Laws
-pub mod Listed
+pub mod Sizes
 pub mod Lengths

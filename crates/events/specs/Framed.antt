@@ -13,9 +13,11 @@ use Rattle.frames.specs.Stores.{Lent, cellsOf, offsetsOf}
 use Rattle.frames.specs.Accepted.{Modest}
 use Rattle.frames.specs.declared.input.Frames.{Frames}
 
--- offsets of n frames into rows
+-- offsets of n frames into rows: from the first row to the last
 pub record Rising (offsets : List ℕ) (n rows : ℕ) : Type 0 where
   pub count : length offsets ≡ n + 1
+  pub first : getD offsets 0 0 ≡ 0
+  pub last : getD offsets n 0 ≡ rows
   pub rise : (i : ℕ) → i < n → getD offsets i 0 ≤ getD offsets (i + 1) 0
   pub inside : (i : ℕ) → i < n → getD offsets (i + 1) 0 ≤ rows
 

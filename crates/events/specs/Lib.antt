@@ -1,3 +1,4 @@
 pub mod Events
 pub mod Framed
 pub mod Plans
+pub mod Length

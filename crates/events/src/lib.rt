@@ -1,4 +1,4 @@
 // The events of the frames: what is the same for all records of a family, and the writer of all records.
 pub mod frame;
-pub mod plans;
-pub mod rows;
+mod plans;
+mod rows;

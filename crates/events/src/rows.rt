@@ -6,7 +6,7 @@ ghost use Rattle.wire.specs.Wire.{Room, Wrote};
 ghost use Rattle.format.specs.File.{eventBytes};
 ghost use Rattle.layout.specs.Columns.{sum};
 ghost use Rattle.record.specs.Record.{recordOf, InStore};
-ghost use Rattle.events.specs.Plans.{oneBytes, rangeBytes, rowsBytes, playersBytes, Stored, PerFrame, PerOffset, Seated};
+ghost use Rattle.events.specs.Plans.{oneBytes, rangeBytes, rowsBytes, playersBytes, Stored, PerOffset, Seated};
 use super::plans::Form;
 use frames::presence::is_present;
 use frames::slots::Slots;

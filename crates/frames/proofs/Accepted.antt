@@ -1,10 +1,10 @@
 -- What is known of an accepted input: from the judge's answer 0, that refusals 1 to 7 do not apply, and what that says of each part.
 -- Assumes nothing.
 use mathlib.Core.Path.{_≡_, refl, sym, ap, _∙_}
-use mathlib.Core.Bool.{Bool, true, false, not}
-use mathlib.Core.List.{List, [], _∷_, _++_, map}
-use Prim.Native.Nat.{ℕ, zero, suc, _+_, _≤_, _<_}
-use native.Mathlib.Nat.{add-zero, add-suc, suc-add}
+use mathlib.Core.Bool.{Bool, true, false}
+use mathlib.Core.List.{List, [], _∷_, _++_}
+use Prim.Native.Nat.{ℕ, suc, _+_, _≤_, _<_}
+use native.Mathlib.Nat.{add-zero}
 use native.Mathlib.Numerals.{add-one}
 use native.Mathlib.Omega.{arith}
 use borrow.Author.Tests.{ltb-false, not-false}
@@ -15,9 +15,9 @@ use Rattle.format.specs.Refusal.{lowest}
 use Rattle.format.proofs.Refusals.{passed}
 use Rattle.layout.specs.declared.columns.Family.{Family}
 use Rattle.layout.specs.declared.columns.Family.the-variants.{Item}
-use Rattle.frames.specs.Stores.{Lent, Cells, Offsets, families, offsetFamilies, cellsOf, offsetsOf}
-use Rattle.frames.specs.Judge.{oneOf, tooMany, misfits, exceeds, storesMisfit, cellsExceed, misleads, offsetsMislead, refusals}
-use Rattle.frames.specs.Accepted.{Modest, Stored, Placed, Attended, Ported, Accepted}
+use Rattle.frames.specs.Stores.{Lent, Cells, Offsets, offsetFamilies, cellsOf, offsetsOf}
+use Rattle.frames.specs.Judge.{tooMany, exceeds, storesMisfit, cellsExceed, misleads, offsetsMislead, refusals}
+use Rattle.frames.specs.Accepted.{Modest, Stored, Accepted}
 use Rattle.frames.specs.declared.input.Frames.{Frames}
 use Rattle.frames.proofs.Tests.{one-passed, rest-each}
 use Rattle.frames.proofs.CellLaws.{family-none, ids-fit, stores-fit, stored}

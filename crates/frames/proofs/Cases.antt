@@ -1,8 +1,7 @@
 -- Computed examples: inputs of each refusal number, slots, and players counted.
 -- Assumes nothing.
 use mathlib.Core.Path.{_≡_, refl}
-use mathlib.Core.Bool.{Bool, true, false}
-use mathlib.Core.List.{List, [], _∷_, _++_, map}
+use mathlib.Core.List.{List, [], _∷_, map}
 use Prim.Native.Nat.{ℕ}
 use lib.ListN.{replicate}
 use Rattle.wire.specs.Wire.{keep, tabulate}
@@ -10,7 +9,7 @@ use Rattle.format.specs.Version.{version, above, gteOf, acceptedOf}
 use Rattle.format.specs.Refusal.{lowest}
 use Rattle.format.specs.declared.version.Version.{Version}
 use Rattle.layout.specs.Columns.{columnsOf, chosen, sum, hasFamily}
-use Rattle.frames.specs.Input.{Slot, slot, portsOf, portSlots, portBytes, slotsFrom, slotsOf}
+use Rattle.frames.specs.Input.{slot, portsOf, portSlots, portBytes, slotsFrom, slotsOf}
 use Rattle.frames.specs.Presence.{marked, countFrom, playersPresent}
 use Rattle.frames.specs.Stores.{Lent, cells, offsets, lent}
 use Rattle.frames.specs.Judge.{oneOf, tooMany, misfits, storesMisfit, columnsExceed, blocksExceed, exceeds, cellsExceed, falls, strays, given, misleads, offsetsMislead, uneven, portUneven, portsUneven, presenceWrong, portNumbers, twice, portsWrong, refusals}

@@ -4,11 +4,12 @@ use mathlib.Core.Path.{_≡_, refl, sym, ap, _∙_}
 use mathlib.Core.Bool.{Bool, true, false, not, _||_, or-assoc, or-false}
 use mathlib.Core.List.{List, [], _∷_, _++_, map, map-append}
 use Prim.Native.Nat.{ℕ, zero, suc, _+_, _*_, _-_, _%_, _^_, _≤_, _<_}
-use native.Mathlib.Nat.{add-comm, add-assoc, add-zero, zero-add, mul-assoc, zero-mul, suc-mul, add-mul, one-mul, mul-le-mul, pow-le-pow-right, lt-of-lt-of-le, sub-eq-zero-of-le, add-sub-cancel-left}
+use native.Mathlib.Nat.{add-comm, add-assoc, zero-add, mul-assoc, zero-mul, suc-mul, add-mul, one-mul, mul-le-mul, mul-le-mul-right, pow-le-pow-right, lt-of-lt-of-le, sub-eq-zero-of-le, add-sub-cancel-left}
 use native.Mathlib.Numerals.{add-one}
 use native.Mathlib.Omega.{arith}
 use borrow.Author.Tests.{le-leb, lt-leb, leb-true, leb-false, eqb-true, not-false}
-use lib.Bits.{bitOr, bitAnd, or-lt, or-add-and, and-le-l, and-le-r}
+use lib.Arith.{digits-lt}
+use lib.Bits.{bitOr, or-lt, or-add-and, and-le-l, and-le-r}
 use lib.Dec.{leb, eqb, lit<}
 use lib.ListN.{length, getD, take, drop, replicate, length-append, length-replicate, length-take, length-drop, drop-of-length-le}
 use lib.Pow.{pow-pos, shl-exact}
@@ -92,10 +93,6 @@ columns-run (suc n) w ws rows cells =
 -- the widths of a plan's runs from the k-th on
 unfoldable pub runsFrom : Plan → ℕ → List ℕ
 runsFrom p k = expand (drop k (take (p .runs) (p .widths))) (drop k (take (p .runs) (p .lengths)))
-
-pub runs-start : (p : Plan) → runsFrom p 0 ≡ runWidths p
-unfolding runsFrom
-runs-start p = refl
 
 runs-step : (p : Plan) → Whole p → (k : ℕ) → k < p .runs → runsFrom p k ≡ replicate (getD (p .lengths) k 0) (getD (p .widths) k 0) ++ runsFrom p (k + 1)
 unfolding runsFrom expand
@@ -273,3 +270,38 @@ stored f family cells m e =
           rw (cell-place block (length (widthsOf family (f .version))) column (rowsOf f family) row)
           (blocks-narrow (blocksOf f family) (widthsOf family (f .version)) (rowsOf f family) cells e (omega arith) block column row b h l);
     }
+
+-- ---- where a store's cells stand, for whoever reads them
+module _ (f : Frames) (family : Family) (cells : List ℕ) (s : Stored f family cells) where
+  abbrev columns : ℕ
+  columns = length (widthsOf family (f .version))
+
+  abbrev rows : ℕ
+  rows = rowsOf f family
+
+  pub cell-inside : (block column row : ℕ) → block < blocksOf f family → column < columns → row < rows → (block * columns + column) * rows + row < length cells
+  cell-inside block column row b h l =
+      rw (cell-place block columns column rows row, s .size) (digits-lt b (digits-lt h l))
+
+  -- a block is a store of one block
+  pub block-inside : (block : ℕ) → block < blocksOf f family → block * (columns * rows) + columns * rows ≤ length cells
+  block-inside block b = rw (s .size, ← suc-mul) (mul-le-mul-right (columns * rows) b)
+
+  pub block-size : (block : ℕ) → block < blocksOf f family → length (part cells (block * (columns * rows)) (columns * rows)) ≡ columns * rows
+  unfolding part
+  block-size block b = length-take-le (columns * rows) (drop (block * (columns * rows)) cells) (simp length-drop (omega (arith, block-inside block b)))
+
+  pub block-cell : (block column row : ℕ) → column < columns → row < rows
+      → getD (part cells (block * (columns * rows)) (columns * rows)) (column * rows + row) 0 ≡ getD cells ((block * columns + column) * rows + row) 0
+  unfolding part
+  block-cell block column row h l =
+      getD-take (columns * rows) (drop (block * (columns * rows)) cells) (column * rows + row) 0 (digits-lt h l)
+      ∙ getD-drop (block * (columns * rows)) cells (column * rows + row) 0
+      ∙ ap (λ (i : ℕ). getD cells i 0) (sym (cell-place block columns column rows row))
+
+  -- a store of one block
+  pub single-size : blocksOf f family ≡ 1 → length cells ≡ columns * rows
+  single-size e = s .size ∙ rw (e, one-mul)
+
+  pub single-narrow : blocksOf f family ≡ 1 → (column row : ℕ) → column < columns → row < rows → getD cells (column * rows + row) 0 < 256 ^ getD (widthsOf family (f .version)) column 0
+  single-narrow e column row h l = rw (zero-mul, zero-add) at (s .narrow 0 column row (omega arith) h l)

@@ -1,7 +1,7 @@
 -- The laws of offsets.
 -- Assumes nothing.
 use mathlib.Core.Path.{_≡_, refl, sym, ap, _∙_}
-use mathlib.Core.Bool.{Bool, true, false, not, _||_, cond}
+use mathlib.Core.Bool.{Bool, true, false, not, _||_}
 use mathlib.Core.List.{List, [], _∷_}
 use Prim.Native.Nat.{ℕ, zero, suc, _+_, _-_, _≤_, _<_}
 use native.Mathlib.Nat.{add-zero, le-refl}
@@ -15,7 +15,7 @@ use lib.Seq.{drop-cons}
 use Rattle.layout.specs.Columns.{hasFamily}
 use Rattle.layout.specs.declared.columns.Family.{Family}
 use Rattle.frames.specs.Input.{rowsOf}
-use Rattle.frames.specs.Judge.{oneOf, falls, strays, given, misleads}
+use Rattle.frames.specs.Judge.{falls, strays, given, misleads}
 use Rattle.frames.specs.Accepted.{Ranges, Placed}
 use Rattle.frames.specs.declared.input.Frames.{Frames}
 use Rattle.frames.proofs.Tests.{same-of, or-none, one-or, one-last, one-passed}

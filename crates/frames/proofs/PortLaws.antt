@@ -1,7 +1,7 @@
 -- The laws of the tests of presence bytes and port columns.
 -- Assumes nothing.
-use mathlib.Core.Path.{_≡_, refl, sym, ap, _∙_}
-use mathlib.Core.Bool.{Bool, true, false, not, cond, _||_}
+use mathlib.Core.Path.{_≡_, sym, ap, _∙_}
+use mathlib.Core.Bool.{Bool, true, false, not}
 use mathlib.Core.List.{List, [], _∷_, map}
 use Prim.Native.Nat.{ℕ, zero, suc, _+_, _/_, _≤_, _<_}
 use native.Mathlib.Numerals.{add-one}
@@ -11,7 +11,7 @@ use lib.Dec.{eqb, ltb}
 use lib.ListN.{length, getD, drop, length-map, drop-of-length-le, List·getD-map}
 use lib.Seq.{drop-cons}
 use Rattle.layout.specs.Columns.{sum}
-use Rattle.frames.specs.Input.{noPort, portsOf, follows, portBytes}
+use Rattle.frames.specs.Input.{noPort, portsOf, follows}
 use Rattle.frames.specs.Judge.{oneOf, uneven, portUneven, portNumbers, twice, portsWrong}
 use Rattle.frames.specs.Accepted.{Ported}
 use Rattle.frames.specs.declared.input.PortColumn.{PortColumn}

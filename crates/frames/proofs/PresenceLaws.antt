@@ -5,20 +5,20 @@ use mathlib.Core.Bool.{Bool, true, false, cond}
 use mathlib.Core.List.{List, [], _∷_, _++_, map}
 use mathlib.Core.Logic.{_⊎_, inl, inr}
 use Prim.Native.Nat.{ℕ, zero, suc, _+_, _*_, _-_, _/_, _%_, _^_, _≤_, _<_}
-use native.Mathlib.Nat.{add-zero, zero-add, add-assoc, add-suc, suc-add, zero-div, mod-lt, mod-eq-of-lt, suc-mul, mul-le-mul-right}
+use native.Mathlib.Nat.{add-zero, zero-add, add-assoc, suc-add, zero-div, mod-lt, mod-eq-of-lt, suc-mul, mul-le-mul-right}
 use native.Mathlib.Numerals.{add-one, one-add}
 use native.Mathlib.Omega.{arith}
 use borrow.Author.Tests.{eq-eqb, ne-eqb, eqb-true, not-false}
-use lib.Dec.{eqb, lit<, lit≤}
-use lib.ListN.{length, getD, drop, length-append, drop-of-length-le, List·getD-eq-default, List·getD-append}
-use lib.Seq.{drop-cons, getD-append-add}
+use lib.Dec.{eqb, lit≤}
+use lib.ListN.{length, getD, drop, drop-of-length-le, List·getD-eq-default}
+use lib.Seq.{drop-cons}
 use lib.Count.{ones, ones-step, ones-cat}
 use lib.Pow.{mod-pow-add, pow-pos}
-use Rattle.wire.specs.Wire.{keep, tabulate}
+use Rattle.wire.specs.Wire.{keep}
 use Rattle.wire.proofs.Laws.{tabulate-length, tabulate-at}
 use Rattle.layout.specs.Columns.{sum}
 use Rattle.frames.specs.Input.{Slot, slot, noSlot, portsOf, follows, portSlots, portBytes, slotsFrom, slotsOf, slotIn, slotsIn, Slotted}
-use Rattle.frames.specs.Presence.{marked, countFrom, presentIn, playersPresent, Covers}
+use Rattle.frames.specs.Presence.{marked, countFrom, presentAt, presentIn, playersPresent, Covers}
 use Rattle.frames.specs.Judge.{oneOf, portUneven, portsUneven, presenceWrong}
 use Rattle.frames.specs.declared.input.PortColumn.{PortColumn}
 use Rattle.frames.specs.declared.input.Frames.{Frames}
@@ -198,3 +198,32 @@ players-most bits frames (s ∷ ss) = rw suc-mul (omega (arith, players-most bit
 
 pub players-few : (f : Frames) (bits : List ℕ) (frames : ℕ) → playersPresent bits (slotsOf f) frames ≤ 8 * frames
 players-few f bits frames = omega (arith, players-most bits frames (slotsOf f), mul-le-mul-right frames (slots-few f))
+
+-- whether a player is there, as the code asks it of its slots
+pub present-as : (f : Frames) (s : Slots) → Slotted f s → (bits : List ℕ) (k i : ℕ) → k < s .count
+    → marked bits (getD (s .at) k 0) (getD (s .len) k 0) i ≡ presentAt bits (getD (slotsOf f) k noSlot) i
+present-as f s e bits k i h = ap (λ (x : Slot). presentAt bits x i) (sym (slot-at f s e k h))
+
+-- ---- the same players, a frame at a time: how many slots frame i has, and the n frames from the i-th on
+unfoldable pub slotsAt : List ℕ → List Slot → ℕ → ℕ
+slotsAt bits [] i = 0
+slotsAt bits (s ∷ ss) i = cond (presentAt bits s i) 1 0 + slotsAt bits ss i
+
+unfoldable pub slotsOver : List ℕ → List Slot → ℕ → ℕ → ℕ
+slotsOver bits ss i zero = 0
+slotsOver bits ss i (suc n) = slotsAt bits ss i + slotsOver bits ss (i + 1) n
+
+over-none : (bits : List ℕ) (i n : ℕ) → slotsOver bits [] i n ≡ 0
+unfolding slotsOver slotsAt
+over-none bits i zero = refl
+over-none bits i (suc n) = omega (arith, over-none bits (i + 1) n)
+
+over-more : (bits : List ℕ) (s : Slot) (ss : List Slot) (i n : ℕ) → slotsOver bits (s ∷ ss) i n ≡ countFrom (presentAt bits s) i n + slotsOver bits ss i n
+unfolding slotsOver slotsAt countFrom
+over-more bits s ss i zero = refl
+over-more bits s ss i (suc n) = omega (arith, over-more bits s ss (i + 1) n)
+
+pub players-by-frame : (bits : List ℕ) (ss : List Slot) (frames : ℕ) → playersPresent bits ss frames ≡ slotsOver bits ss 0 frames
+unfolding playersPresent
+players-by-frame bits [] frames = sym (over-none bits 0 frames)
+players-by-frame bits (s ∷ ss) frames = omega (arith, over-more bits s ss 0 frames, players-by-frame bits ss frames)

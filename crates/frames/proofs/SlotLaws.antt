@@ -9,12 +9,12 @@ use native.Mathlib.Numerals.{add-one}
 use native.Mathlib.Omega.{arith}
 use lib.Dec.{eqb, lit≤}
 use borrow.Author.Tests.{eqb-true, not-false}
-use mathlib.Core.Logic.{_⊎_, inl, inr, ⊎-elim}
+use mathlib.Core.Logic.{_⊎_, inl, inr}
 use lib.ListN.{length, getD, set, drop, length-append, length-set, drop-of-length-le}
 use lib.Seq.{drop-cons, getD-set-same, getD-set-other}
 use Rattle.wire.specs.Wire.{keep, tabulate}
-use Rattle.wire.proofs.Laws.{tabulate-length, tabulate-at, tabulated}
-use Rattle.frames.specs.Input.{noPort, portsOf, follows, Slot, slot, portSlots, portBytes, slotsFrom, slotsOf, noSlot, slotIn, slotsIn, Eight, Grown, Slotted}
+use Rattle.wire.proofs.Laws.{tabulate-length, tabulate-at}
+use Rattle.frames.specs.Input.{noPort, portsOf, follows, Slot, slot, portSlots, portBytes, slotsFrom, slotsOf, slotIn, slotsIn, Eight, Grown}
 use Rattle.frames.specs.Judge.{uneven, portUneven, portsUneven}
 use Rattle.frames.specs.Accepted.{Modest}
 use Rattle.frames.proofs.Tests.{false-true, one-passed, rest-each}

@@ -1,7 +1,7 @@
 -- Refusals 1 to 7: what is judged of a frame input and the stores lent with it.
 -- Assumes nothing.
 use Prim.Native.Nat.{ℕ, zero, suc, _+_, _*_, _/_, _^_}
-use mathlib.Core.Bool.{Bool, true, false, not, cond, _||_}
+use mathlib.Core.Bool.{Bool, false, not, cond, _||_}
 use mathlib.Core.List.{List, [], _∷_, map}
 use lib.Dec.{ltb, leb, eqb}
 use lib.ListN.{length, getD, take, drop}
@@ -31,25 +31,28 @@ tooMany f codes metadata =
     ∷ ltb 65535 metadata
     ∷ [])
 
--- 3: a cell store's length is not columns of this version times rows (times slots); ids is one column
+-- 3: a cell store's length is not columns of this version times rows (times slots): one family's store, then any; ids is one column
 unfoldable pub misfits : Frames → Family → List ℕ → Bool
 misfits f family store = not (eqb (length store) (blocksOf f family * (length (widthsOf family (f .version)) * rowsOf f family)))
 
 unfoldable pub storesMisfit : Frames → Cells → Bool
 storesMisfit f c = oneOf (not (eqb (length (c .ids)) (f .counts .frames)) ∷ map (λ family. misfits f family (cellsOf c family)) families)
 
--- 4: a cell exceeds its width, absent players' rows included
+-- 4: a cell exceeds its width, absent players' rows included; the ids have four bytes, which no cell exceeds
 abbrev pub over : ℕ → ℕ → Bool
 over width cell = leb (256 ^ width) cell
 
+-- columns one after another, each with its width
 unfoldable pub columnsExceed : List ℕ → ℕ → List ℕ → Bool
 columnsExceed [] rows cells = false
 columnsExceed (w ∷ ws) rows cells = oneOf (map (over w) (take rows cells)) || columnsExceed ws rows (drop rows cells)
 
+-- blocks of such columns one after another
 unfoldable pub blocksExceed : ℕ → List ℕ → ℕ → List ℕ → Bool
 blocksExceed zero ws rows cells = false
 blocksExceed (suc n) ws rows cells = columnsExceed ws rows cells || blocksExceed n ws rows (drop (length ws * rows) cells)
 
+-- one family's store, then any
 unfoldable pub exceeds : Frames → Family → List ℕ → Bool
 exceeds f family store = blocksExceed (blocksOf f family) (widthsOf family (f .version)) (rowsOf f family) store
 
@@ -62,10 +65,12 @@ falls [] = false
 falls (a ∷ []) = false
 falls (a ∷ b ∷ os) = ltb b a || falls (b ∷ os)
 
+-- a family that the version has
 unfoldable pub strays : ℕ → ℕ → List ℕ → Bool
 strays frames rows os =
     oneOf (not (eqb (length os) (frames + 1)) ∷ not (eqb (getD os 0 0) 0) ∷ falls os ∷ not (eqb (getD os frames 0) rows) ∷ [])
 
+-- a family that it lacks
 unfoldable pub given : ℕ → List ℕ → Bool
 given rows os = oneOf (not (eqb (length os) 0) ∷ not (eqb rows 0) ∷ [])
 
@@ -75,10 +80,11 @@ misleads f family os = cond (hasFamily (f .version) family) (strays (f .counts .
 unfoldable pub offsetsMislead : Frames → Offsets → Bool
 offsetsMislead f o = oneOf (map (λ family. misleads f family (offsetsOf o family)) offsetFamilies)
 
--- 6: presence bits neither empty nor ceil(frames/8) bytes, a follower's where there is none, or other bytes in all
+-- 6: presence bits neither empty nor ceil(frames/8) bytes, a follower's where there is none, or another number of bytes in all
 unfoldable pub uneven : ℕ → ℕ → Bool
 uneven frames len = not (eqb len 0 || eqb len ((frames + 7) / 8))
 
+-- one port column, then any
 unfoldable pub portUneven : ℕ → PortColumn → Bool
 portUneven frames p =
     oneOf

@@ -2,7 +2,7 @@
 ghost use mathlib.Core.Path.{_≡_};
 ghost use Prim.Native.Nat.{_≤_};
 ghost use Rattle.frames.specs.Stores.{offsets};
-ghost use Rattle.frames.specs.Judge.{falls, strays, given, misleads, offsetsMislead};
+ghost use Rattle.frames.specs.Judge.{falls, strays, misleads, offsetsMislead};
 ghost use Rattle.frames.specs.Accepted.{Modest};
 use super::input::Frames;
 use layout::columns::Family;

@@ -1,6 +1,6 @@
 // Presence: which players a frame has, and how many records of players a game has.
 ghost use mathlib.Core.Path.{_≡_};
-ghost use mathlib.Core.Bool.{Bool, false};
+ghost use mathlib.Core.Bool.{false};
 ghost use Prim.Native.Nat.{_*_, _%_, _^_, _≤_, _<_};
 ghost use lib.Count.{ones};
 ghost use Rattle.frames.specs.Input.{slotsOf, Slotted};

@@ -1,6 +1,6 @@
 // Refusals 3 and 4: the lengths of the stores, and the widths of their cells.
 ghost use mathlib.Core.Path.{_≡_};
-ghost use mathlib.Core.Bool.{Bool, false};
+ghost use mathlib.Core.Bool.{false};
 ghost use mathlib.Core.List.{map};
 ghost use Prim.Native.Nat.{ℕ, _+_, _*_, _-_, _^_, _≤_};
 ghost use lib.Dec.{leb};

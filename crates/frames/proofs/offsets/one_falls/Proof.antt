@@ -1,7 +1,7 @@
 -- `frames::offsets::one_falls` meets its contract. The invariant: the answer is that of the offsets to come.
 -- Assumes nothing.
 use mathlib.Core.Path.{_≡_, refl}
-use Prim.Native.Nat.{ℕ, _-_, _≤_}
+use Prim.Native.Nat.{_-_, _≤_}
 use native.Mathlib.Omega.{arith}
 use lib.ListN.{length, drop}
 use Rattle.frames.specs.Judge.{falls}

@@ -1,6 +1,6 @@
 -- `frames::ports::presence_wrong` meets its contract.
 -- Assumes nothing.
-use mathlib.Core.Path.{_≡_, sym, ap, _∙_}
+use mathlib.Core.Path.{sym, ap, _∙_}
 use mathlib.Core.Bool.{not}
 use Prim.Native.Nat.{ℕ}
 use lib.Dec.{eqb}

@@ -7,7 +7,7 @@ use native.Mathlib.Omega.{arith}
 use native.Mathlib.Nat.{one-mul, mod-le}
 use lib.Dec.{lit<}
 use lib.Pow.{shl-exact, pow-pos}
-use lib.Count.{ones, ones-le}
+use lib.Count.{ones-le}
 use Rattle.frames.proofs.presence.ones_below.Statement.{statement}
 use Rattle.frames.proofs.presence.ones_below.Tie as tie
 

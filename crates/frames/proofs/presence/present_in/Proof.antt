@@ -1,7 +1,7 @@
 -- `frames::presence::present_in` meets its contract. The invariant: n counts the frames of the bytes passed.
 -- Assumes nothing.
 use mathlib.Core.Path.{_≡_, refl}
-use Prim.Native.Nat.{ℕ, _+_, _*_, _-_, _/_, _≤_}
+use Prim.Native.Nat.{_+_, _*_, _-_, _/_, _≤_}
 use native.Mathlib.Omega.{arith}
 use Rattle.frames.specs.Presence.{marked, countFrom}
 use Rattle.frames.proofs.PresenceLaws.{count-all, count-most, whole-byte, last-bits, no-bits}

@@ -1,11 +1,11 @@
 -- `frames::slots::slots_of` meets its contract. The invariant: the slots held, and those of the port columns to come, are all.
 -- Assumes nothing.
-use mathlib.Core.Path.{_≡_, refl, ap, _∙_}
-use Prim.Native.Nat.{ℕ, _+_, _*_, _-_, _≤_, _<_}
+use mathlib.Core.Path.{_≡_, ap, _∙_}
+use Prim.Native.Nat.{_*_, _-_, _≤_}
 use native.Mathlib.Omega.{arith}
 use lib.ListN.{length}
 use Rattle.wire.proofs.Laws.{tabulate-length}
-use Rattle.frames.specs.Input.{portsOf, portBytes, portSlots, slotIn, slotsIn, Eight, Slotted}
+use Rattle.frames.specs.Input.{portBytes, slotIn, slotsIn, Eight}
 use Rattle.frames.proofs.SlotLaws.{Gathered, gather-start, gather-step, gather-done, few-slots, even-bytes}
 use Rattle.frames.proofs.slots.slots_of.Statement.{statement}
 use Rattle.frames.proofs.slots.slots_of.Tie as tie

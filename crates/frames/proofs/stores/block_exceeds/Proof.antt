@@ -1,13 +1,13 @@
 -- `frames::stores::block_exceeds` meets its contract. The invariant: the answer is that of the runs to come.
 -- Assumes nothing.
-use mathlib.Core.Path.{_≡_, refl, sym, ap, _∙_}
-use Prim.Native.Nat.{ℕ, _+_, _*_, _-_, _≤_}
+use mathlib.Core.Path.{_≡_, refl, sym, _∙_}
+use Prim.Native.Nat.{_+_, _*_, _-_, _≤_}
 use native.Mathlib.Omega.{arith}
 use borrow.Author.Needs.{needs}
 use lib.ListN.{length, getD, drop}
 use Rattle.frames.specs.Judge.{columnsExceed}
-use Rattle.frames.specs.Accepted.{runWidths, Whole}
-use Rattle.frames.proofs.CellLaws.{runsFrom, runs-start, runs-cells, runs-here, runs-skip, runs-done, columns-none}
+use Rattle.frames.specs.Accepted.{runWidths}
+use Rattle.frames.proofs.CellLaws.{runsFrom, runs-cells, runs-here, runs-skip, runs-done, columns-none}
 use Rattle.frames.proofs.stores.block_exceeds.Statement.{statement}
 use Rattle.frames.proofs.stores.block_exceeds.Tie as tie
 

@@ -1,10 +1,9 @@
 -- `frames::stores::blocks_exceed` meets its contract. The invariant: the answer is that of the blocks to come.
 -- Assumes nothing.
-use mathlib.Core.Path.{_≡_, refl, sym, _∙_}
-use Prim.Native.Nat.{ℕ, _+_, _*_, _-_, _≤_}
+use mathlib.Core.Path.{_≡_, sym, _∙_}
+use Prim.Native.Nat.{_+_, _*_, _-_, _≤_}
 use native.Mathlib.Nat.{zero-add, sub-zero}
 use native.Mathlib.Omega.{arith}
-use borrow.Author.Needs.{needs}
 use lib.ListN.{length, drop}
 use Rattle.frames.specs.Judge.{blocksExceed}
 use Rattle.frames.specs.Accepted.{runWidths}

@@ -4,7 +4,6 @@ use mathlib.Core.List.{map}
 use Prim.Native.Nat.{ℕ, _-_, _^_, _≤_}
 use native.Mathlib.Omega.{arith}
 use lib.Dec.{leb}
-use lib.ListN.{length}
 use Rattle.wire.specs.Wire.{part}
 use Rattle.frames.specs.Judge.{oneOf}
 use Rattle.frames.proofs.CellLaws.{United, unite-start, unite-step, unite-done}

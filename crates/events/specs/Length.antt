@@ -1,0 +1,32 @@
+-- How many bytes the events of the frames have, by counts.
+-- Assumes nothing.
+use Prim.Native.Nat.{ℕ, _+_, _*_}
+use mathlib.Core.Bool.{cond}
+use mathlib.Core.List.{List}
+use Rattle.format.specs.declared.version.Version.{Version}
+use Rattle.layout.specs.Columns.{hasFamily}
+use Rattle.layout.specs.Payloads.{recordSize}
+use Rattle.layout.specs.declared.columns.Family.{Family}
+use Rattle.layout.specs.declared.columns.Family.the-variants.{Pre, Post, FrameStart, Item, FrameEnd, FodPlatform, DreamlandWhispy, StadiumTransformation}
+use Rattle.frames.specs.Input.{slotsOf}
+use Rattle.frames.specs.Presence.{playersPresent}
+use Rattle.frames.specs.declared.input.Frames.{Frames}
+
+-- a family's event: its code and its payload; none where the version lacks the family
+abbrev pub eventSize : Version → Family → ℕ
+eventSize v family = cond (hasFamily v family) (1 + recordSize family v) 0
+
+-- a start and an end for each frame, a Pre and a Post for each player present, and each row of the others
+unfoldable pub framesLength : Frames → List ℕ → ℕ
+framesLength f presence =
+    let n = f .counts .frames in
+    let v = f .version in
+    let players = playersPresent presence (slotsOf f) n in
+    n * eventSize v FrameStart
+    + (players * (1 + recordSize Pre v)
+    + (f .counts .fods * eventSize v FodPlatform
+    + (f .counts .whispys * eventSize v DreamlandWhispy
+    + (f .counts .stadiums * eventSize v StadiumTransformation
+    + (f .counts .items * eventSize v Item
+    + (players * (1 + recordSize Post v)
+    + n * eventSize v FrameEnd))))))
