@@ -9,7 +9,7 @@ use super::game::Game;
 use format::version::Version;
 
 // How many bytes are given with a mark: none without it.
-fn given_bytes(mark: u8, bytes: &[u8]) -> usize
+pub fn given_bytes(mark: u8, bytes: &[u8]) -> usize
     ensures { λ r. ⌜ r ≡ givenBytes mark (now (bytes .entry)) ⌝ }
 {
     if mark == 0 {
@@ -28,7 +28,7 @@ fn block_wrong(v: Version, template: &[u8]) -> bool
     65_535 < template.len()
 }
 
-fn is_given(mark: u8) -> bool
+pub fn is_given(mark: u8) -> bool
     ensures { λ r. ⌜ r ≡ yes mark ⌝ }
 {
     mark != 0

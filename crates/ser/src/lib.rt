@@ -1,3 +1,5 @@
 // The writer: a game and its lent stores become a replay file, or a refusal.
+mod file;
 pub mod game;
 mod judge;
+mod length;

@@ -1,0 +1,93 @@
+-- The file of a game: its two parts, and the length field.
+-- Assumes nothing.
+use mathlib.Core.Path.{_≡_, refl, sym, ap, ap₂, _∙_}
+use mathlib.Core.Bool.{Bool, true, false, cond}
+use mathlib.Core.List.{List, [], _∷_, _++_, append-assoc}
+use Prim.Native.Nat.{ℕ, _+_, _*_, _≤_, _<_}
+use native.Mathlib.Nat.{add-assoc}
+use native.Mathlib.Omega.{arith}
+use lib.ListN.{length, getD, length-append}
+use Rattle.wire.specs.Wire.{be}
+use Rattle.format.specs.Event.{codeOf, signature}
+use Rattle.format.specs.File.{tableBytes, eventBytes, eventsBytes, fileOf}
+use Rattle.format.specs.Mark.{yes}
+use Rattle.format.specs.declared.event.Event.the-variants.{GameStart}
+use Rattle.format.proofs.Files.{events-cons, events-append}
+use Rattle.layout.specs.declared.columns.Family.{Family}
+use Rattle.layout.specs.declared.columns.Family.the-variants.{Item, FodPlatform, DreamlandWhispy, StadiumTransformation}
+use Rattle.frames.specs.Stores.{Lent}
+use Rattle.frames.specs.Accepted.{Accepted, Ranges}
+use Rattle.frames.specs.declared.input.Frames.{Frames}
+use Rattle.start_block.specs.Block.{blockOf}
+use Rattle.start_block.proofs.Blocks.{length-block}
+use Rattle.codes.specs.Blocks.{blockCount, codeEvents}
+use Rattle.codes.specs.End.{endEvents}
+use Rattle.codes.specs.Tail.{tailOf}
+use Rattle.codes.proofs.Lengths.{length-codes, length-ends}
+use Rattle.events.specs.Events.{framesEvents}
+use Rattle.events.specs.Framed.{Rising, Framed}
+use Rattle.events.proofs.Lengths.{length-frames}
+use Rattle.ser.specs.declared.game.Game.{Game}
+use Rattle.ser.specs.Write.{Stores, entries, startEvent, events, file}
+use Rattle.ser.specs.Length.{rawLength}
+use Rattle.ser.specs.Parts.{frontBytes, restBytes}
+
+-- ---- what the frames' writer needs, of an accepted input
+
+rising : {n rows : ℕ} {os : List ℕ} → Ranges n rows os → Rising os n rows
+rising r = record {
+  count = r .entries;
+  first = r .first;
+  last = r .last;
+  rise = r .rising;
+  inside = λ i h. r .inside (i + 1) (omega arith);
+}
+
+pub framed : {f : Frames} {s : Lent} → Accepted f s → Framed f s
+framed a = record {
+  modest = a .modest;
+  ids = a .ids;
+  stores = λ family. a .stores family .size;
+  items = λ h. rising (a .items .has h);
+  fods = λ h. rising (a .fods .has h);
+  whispys = λ h. rising (a .whispys .has h);
+  stadiums = λ h. rising (a .stadiums .has h);
+}
+
+module _ (g : Game) (s : Stores) where
+  abbrev parts : List ℕ
+  parts =
+      eventsBytes (codeEvents (yes (g .«codes_given»)) (s .codes) (g .«actual_size»))
+      ++ (eventsBytes (framesEvents (g .frames) (s .lent)) ++ eventsBytes (endEvents (g .frames .version) (g .end) (g .«double_end»)))
+
+  events-parts : eventsBytes (events g s) ≡ eventBytes (startEvent g s) ++ parts
+  unfolding events
+  events-parts =
+      events-cons (startEvent g s) _
+      ∙ ap (λ (l : List ℕ). eventBytes (startEvent g s) ++ l) (events-append _ _ ∙ ap (λ (l : List ℕ). eventsBytes (codeEvents (yes (g .«codes_given»)) (s .codes) (g .«actual_size»)) ++ l) (events-append _ _))
+
+  start-size : length (eventBytes (startEvent g s)) ≡ 1 + length (s .template)
+  start-size = let e = length-block (g .frames .version) (g .start) (s .template) in omega arith
+
+  -- the bytes from the table through the last event, by counts
+  pub length-raw : (yes (g .«codes_given») ≡ true → length (s .codes) ≡ 512 * blockCount (g .«actual_size»)) → Framed (g .frames) (s .lent)
+      → length (tableBytes (entries g s) ++ eventsBytes (events g s)) ≡ rawLength g (s .lent .presence) (length (s .template))
+  unfolding rawLength
+  length-raw whole f =
+      length-append (tableBytes (entries g s)) (eventsBytes (events g s))
+      ∙ ap (λ (n : ℕ). length (tableBytes (entries g s)) + n)
+      (ap length events-parts
+      ∙ length-append (eventBytes (startEvent g s)) parts
+      ∙ ap₂ _+_ start-size
+      (length-append (eventsBytes (codeEvents (yes (g .«codes_given»)) (s .codes) (g .«actual_size»))) _
+      ∙ ap₂ _+_ (length-codes (yes (g .«codes_given»)) (s .codes) (g .«actual_size») whole)
+      (length-append (eventsBytes (framesEvents (g .frames) (s .lent))) _
+      ∙ ap₂ _+_ (length-frames (g .frames) (s .lent) f) (length-ends (g .frames .version) (g .end) (g .«double_end»)))))
+
+  -- the file is its two parts, with that length between them
+  pub file-parts : file g s ≡ frontBytes g (s .template) (length (tableBytes (entries g s) ++ eventsBytes (events g s))) ++ restBytes g (s .lent) (s .codes) (s .metadata)
+  unfolding file fileOf frontBytes restBytes
+  file-parts =
+      let tail = tailOf (yes (g .«metadata_given»)) (s .metadata) in
+      let n = length (tableBytes (entries g s) ++ eventsBytes (events g s)) in
+      ap (λ (l : List ℕ). signature ++ (be 4 n ++ (tableBytes (entries g s) ++ (l ++ tail)))) events-parts ∙ simp append-assoc

@@ -1,0 +1,46 @@
+-- `ser::file::put_rest` meets its contract: four parts, one after the other.
+-- Assumes nothing.
+use mathlib.Core.Path.{refl, sym, _∙_}
+use borrow.Author.Needs.{needs}
+use Rattle.wire.proofs.Writers.{room-as, room-first, room-second, wrote-as, wrote-then}
+use Rattle.ser.proofs.Fronts.{rest-parts}
+use Rattle.ser.proofs.file.put_rest.Statement.{statement}
+use Rattle.ser.proofs.file.put_rest.Tie as tie
+
+put-codes-requires : tie.Need-put-codes-requires
+put-codes-requires c κs =
+    (λ t. c .before .before .before .before .before .before .before .before .before .before .before .before .before .before .before .before .before .before .before .before .before .pre .0 (sym (c .is-given .ensures) ∙ t), room-first _ (room-as (rest-parts _ _ _ _ _ _ (sym (c .is-given .ensures)) refl) (c .before .before .before .before .before .before .before .before .before .before .before .before .before .before .before .before .before .before .before .before .before .pre .3)))
+
+put-frames-requires : tie.Need-put-frames-requires
+put-frames-requires c κs =
+    let s = c .before .before .before .before .before .before .before .before .before .before .before .before .before .before .before .before .before .before .before .before .before .before .before .before .before in
+    let r = room-as (rest-parts _ _ _ _ _ _ (sym (c .before .before .before .before .is-given .ensures)) refl) (c .before .before .before .before .before .before .before .before .before .before .before .before .before .before .before .before .before .before .before .before .before .before .before .before .before .pre .3) in
+    (s .pre .1, s .pre .2, room-first _ (room-second r (c .before .before .before .put-codes .ensures)))
+
+put-ends-requires : tie.Need-put-ends-requires
+put-ends-requires c κs =
+    let r = room-as (rest-parts _ _ _ _ _ _ (sym (c .before .before .before .before .before .before .before .before .is-given .ensures)) refl) (c .before .before .before .before .before .before .before .before .before .before .before .before .before .before .before .before .before .before .before .before .before .before .before .before .before .before .before .before .before .pre .3) in
+    room-first _ (room-second (room-second r (c .before .before .before .before .before .before .before .put-codes .ensures)) (c .before .before .before .put-frames .ensures))
+
+put-tail-requires : tie.Need-put-tail-requires
+put-tail-requires c κs =
+    let r = room-as (rest-parts _ _ _ _ _ _ (sym (c .before .before .before .before .before .before .before .before .before .before .before .before .before .is-given .ensures)) (sym (c .is-given2 .ensures))) (c .before .before .before .before .before .before .before .before .before .before .before .before .before .before .before .before .before .before .before .before .before .before .before .before .before .before .before .before .before .before .before .before .before .before .pre .3) in
+    room-second (room-second (room-second r (c .before .before .before .before .before .before .before .before .before .before .before .before .put-codes .ensures)) (c .before .before .before .before .before .before .before .before .put-frames .ensures)) (c .before .before .before .before .put-ends .ensures)
+
+returns : tie.Need-returns
+returns c =
+    wrote-as (sym (rest-parts _ _ _ _ _ _ (sym (c .before .before .before .before .before .before .before .before .before .before .before .before .before .before .before .before .is-given .ensures)) (sym (c .before .before .before .is-given2 .ensures))))
+    (wrote-then (c .before .before .before .before .before .before .before .before .before .before .before .before .before .before .before .put-codes .ensures) (wrote-then (c .before .before .before .before .before .before .before .before .before .before .before .put-frames .ensures) (wrote-then (c .before .before .before .before .before .before .before .put-ends .ensures) (c .before .before .put-tail .ensures))))
+
+pub put-rest-spec : {M : Type 1} → statement M
+put-rest-spec =
+    tie.close
+    (tie.spec
+    (λ c κs. search needs)
+    put-codes-requires
+    put-frames-requires
+    put-ends-requires
+    (λ c κs. search needs)
+    put-tail-requires
+    (λ c. search needs)
+    returns)
