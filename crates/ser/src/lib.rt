@@ -3,3 +3,4 @@ mod file;
 pub mod game;
 mod judge;
 mod length;
+pub mod write;

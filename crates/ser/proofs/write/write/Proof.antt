@@ -1,0 +1,74 @@
+-- `ser::write::write` meets its contract.
+-- Assumes nothing.
+use mathlib.Core.Path.{sym, _∙_}
+use native.Mathlib.Omega.{arith}
+use borrow.Author.Needs.{needs}
+use Rattle.wire.proofs.Writers.{room-first, room-second, wrote-as, wrote-then}
+use Rattle.ser.proofs.Files.{framed}
+use Rattle.ser.proofs.Outcomes.{passes, block-fits, judged-refused, short-refused, written}
+use Rattle.ser.proofs.Steps.{whole, total-is, raw-fits, file-as, room}
+use Rattle.ser.proofs.write.write.Statement.{statement}
+use Rattle.ser.proofs.write.write.Tie as tie
+
+returns : tie.Need-returns
+returns c = judged-refused _ (c .before .refused .ensures) (c .if1 .taken)
+
+slots-of-requires : tie.Need-slots-of-requires
+slots-of-requires c κs = let p = passes _ _ (sym (c .before .before .refused .ensures) ∙ c .before .if1 .left) in (p .frames .modest, p .frames .presence .even)
+
+raw-len-requires : tie.Need-raw-len-requires
+raw-len-requires c κs =
+    let p = passes _ _ (sym (c .before .before .before .refused .ensures) ∙ c .before .before .if1 .left) in
+    (p .frames .modest, c .slots-of .ensures, p .frames .presence .right, omega (arith, block-fits _ _ (p .block)))
+
+tail-len-requires : tie.Need-tail-len-requires
+tail-len-requires c κs = let p = passes _ _ (sym (c .before .before .before .before .before .before .refused .ensures) ∙ c .before .before .before .before .before .if1 .left) in omega (arith, p .metadata-few, c .given-bytes .ensures)
+
+returns-2 : tie.Need-returns-2
+returns-2 c =
+    let p = passes _ _ (sym (c .before .before .before .before .before .before .before .before .refused .ensures) ∙ c .before .before .before .before .before .before .before .if1 .left) in
+    short-refused _ _ (c .before .before .before .before .before .before .before .before .refused .ensures) (c .before .before .before .before .before .before .before .if1 .left) (total-is p _ (c .before .before .before .before .raw-len .ensures .0) _ _ _ (c .before .before .before .is-given .ensures) (c .before .before .given-bytes .ensures) (c .before .tail-len .ensures .0)) (c .if2 .taken)
+
+cast-put-front : tie.Need-cast-put-front
+cast-put-front c =
+    let p = passes _ _ (sym (c .before .before .before .before .before .before .before .before .before .refused .ensures) ∙ c .before .before .before .before .before .before .before .before .if1 .left) in
+    let h = raw-fits p _ (c .before .before .before .before .before .raw-len .ensures .0) (omega (arith, c .before .before .before .before .before .before .slots-of .ensures .count, c .before .before .before .before .before .before .slots-of .ensures .few)) in
+    record { fits = h }
+
+put-front-requires : tie.Need-put-front-requires
+put-front-requires c κs =
+    let p = passes _ _ (sym (c .before .before .before .before .before .before .before .before .before .refused .ensures) ∙ c .before .before .before .before .before .before .before .before .if1 .left) in
+    let (long, short) = block-fits _ _ (p .block) in
+    (long, omega arith, p .start, room-first _ (room p _ (c .before .before .before .before .before .raw-len .ensures .0) _ (total-is p _ (c .before .before .before .before .before .raw-len .ensures .0) _ _ _ (c .before .before .before .before .is-given .ensures) (c .before .before .before .given-bytes .ensures) (c .before .before .tail-len .ensures .0)) (c .before .if2 .left)))
+
+put-rest-requires : tie.Need-put-rest-requires
+put-rest-requires c κs =
+    let p = passes _ _ (sym (c .before .before .before .before .before .before .before .before .before .before .before .before .before .refused .ensures) ∙ c .before .before .before .before .before .before .before .before .before .before .before .before .if1 .left) in
+    let r = room p _ (c .before .before .before .before .before .before .before .before .before .raw-len .ensures .0) _ (total-is p _ (c .before .before .before .before .before .before .before .before .before .raw-len .ensures .0) _ _ _ (c .before .before .before .before .before .before .before .before .is-given .ensures) (c .before .before .before .before .before .before .before .given-bytes .ensures) (c .before .before .before .before .before .before .tail-len .ensures .0)) (c .before .before .before .before .before .if2 .left) in
+    (whole p, framed (p .frames), c .before .before .before .before .before .before .before .before .before .before .slots-of .ensures, room-second r (c .before .before .before .put-front .ensures))
+
+returns-3 : tie.Need-returns-3
+returns-3 c =
+    let p = passes _ _ (sym (c .before .before .before .before .before .before .before .before .before .before .before .before .before .before .before .before .refused .ensures) ∙ c .before .before .before .before .before .before .before .before .before .before .before .before .before .before .before .if1 .left) in
+    written _ _ (c .before .before .before .before .before .before .before .before .before .before .before .before .before .before .before .before .refused .ensures) (c .before .before .before .before .before .before .before .before .before .before .before .before .before .before .before .if1 .left) (total-is p _ (c .before .before .before .before .before .before .before .before .before .before .before .before .raw-len .ensures .0) _ _ _ (c .before .before .before .before .before .before .before .before .before .before .before .is-given .ensures) (c .before .before .before .before .before .before .before .before .before .before .given-bytes .ensures) (c .before .before .before .before .before .before .before .before .before .tail-len .ensures .0)) (c .before .before .before .before .before .before .before .before .if2 .left)
+    (wrote-as (sym (file-as p _ (c .before .before .before .before .before .before .before .before .before .before .before .before .raw-len .ensures .0))) (wrote-then (c .before .before .before .before .before .before .put-front .ensures) (c .before .before .put-rest .ensures)))
+
+pub write-spec : {M : Type 1} → statement M
+write-spec =
+    tie.close
+    (tie.spec
+    (λ c κs. search needs)
+    returns
+    slots-of-requires
+    raw-len-requires
+    (λ c κs. search needs)
+    (λ c κs. search needs)
+    tail-len-requires
+    (λ c. search needs)
+    (λ c. search needs)
+    returns-2
+    cast-put-front
+    put-front-requires
+    put-rest-requires
+    (λ c. search needs)
+    returns-3)
