@@ -1,7 +1,6 @@
 -- Worked games: what their length fields say, and which are refused, computed from the definitions.
 -- Assumes nothing.
 use mathlib.Core.Path.{_≡_, refl}
-use mathlib.Core.Bool.{Bool, true, false}
 use mathlib.Core.List.{List, [], _∷_, map}
 use Prim.Native.Nat.{ℕ}
 use lib.ListN.{replicate}
@@ -16,10 +15,15 @@ use Rattle.frames.specs.Input.{noPort, portsOf, portSlots, portBytes, slotsFrom
 use Rattle.frames.specs.Presence.{marked, countFrom, playersPresent}
 use Rattle.start.specs.Length.{reached, lengthOf}
 use Rattle.start.proofs.Samples.{nobody, start}
-use Rattle.codes.specs.Blocks.{blockCount}
+use Rattle.codes.specs.Blocks.{blockCount, codesWrong}
 use Rattle.events.specs.Length.{framesLength}
 use Rattle.ser.specs.declared.game.Game.{Game}
-use Rattle.ser.specs.Write.{blockBad}
+use Rattle.ser.specs.Write.{Stores, stores, blockBad, judged}
+use Rattle.format.specs.Refusal.{lowest, oneOf}
+use Rattle.frames.specs.Stores.{cells, offsets, lent}
+use Rattle.frames.specs.Judge.{tooMany, misfits, storesMisfit, columnsExceed, blocksExceed, exceeds, cellsExceed, falls, strays, given, misleads, offsetsMislead, uneven, portUneven, portsUneven, presenceWrong, portNumbers, twice, portsWrong, refusals}
+use Rattle.start.specs.Refusal.{missing, tooLong, badSeat, badStart}
+use Rattle.codes.specs.End.{endWrong}
 use Rattle.ser.specs.Length.{rawLength}
 
 -- a game of n frames with one leader in them where there are any, an end or none, and codes of some actual size or none
@@ -47,8 +51,15 @@ length-fields : rawLength (game (version 0 1 0) 0 0 0 0) [] 320
 unfolding rawLength tableBytes entriesBytes be entriesOf chosen listed payloadSize hasFamily gteOf above sum columnsOf endSize framesLength playersPresent countFrom slotsOf slotsFrom portsOf portSlots portBytes marked tabulate keep blockCount
 length-fields = refl
 
--- 3.18.0 is accepted and 3.18.1 is not; a block of 320 bytes is long enough at 0.1.0 and one of 319 is not
-accepted-and-not : acceptedOf (version 3 18 0) ∷ acceptedOf (version 3 18 1) ∷ blockBad (version 0 1 0) 320 ∷ blockBad (version 0 1 0) 319 ∷ []
-    ≡ true ∷ false ∷ false ∷ true ∷ []
-unfolding acceptedOf above blockBad lengthOf reached gteOf
-accepted-and-not = refl
+-- nothing lent but a start block of n bytes
+abbrev lone : ℕ → Stores
+lone n = stores (lent (cells [] [] [] [] [] [] [] [] []) (offsets [] [] [] []) []) (replicate n 0) [] []
+
+-- refusals 1 to 11: 0.1.0 with a block of 320 bytes passes, with one of 319 it is 8; 3.18.1 is 1
+judgements : lowest 1 (judged (game (version 0 1 0) 0 0 0 0) (lone 320))
+    ∷ lowest 1 (judged (game (version 0 1 0) 0 0 0 0) (lone 319))
+    ∷ lowest 1 (judged (game (version 3 18 1) 0 0 0 0) (lone 760))
+    ∷ []
+    ≡ 0 ∷ 8 ∷ 1 ∷ []
+unfolding judged refusals lowest oneOf tooMany storesMisfit misfits cellsExceed exceeds blocksExceed columnsExceed offsetsMislead misleads strays given falls presenceWrong portsUneven portUneven uneven portsWrong portNumbers twice slotsOf slotsFrom portsOf portSlots portBytes tabulate keep sum chosen columnsOf hasFamily acceptedOf above gteOf blockBad lengthOf reached badStart badSeat missing tooLong codesWrong endWrong
+judgements = refl
