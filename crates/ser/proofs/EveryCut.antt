@@ -4,7 +4,8 @@
 --   the cut, in order and unaltered, and the exact number of stray event bytes. It calls the event data whole exactly when all of it is
 --   there. A cut before the table is whole is refused by name.
 --
--- `Passed g s` says that refusals 1 to 11 do not apply to the game g with the stores s; `file g s` is what `write` then writes.
+-- `Passed g s` says that refusals 1 to 11 do not apply to the game g with the stores s, as they do not where `write` answers a file
+-- (`not-refused` of Outcomes.antt); `file g s` is what it then writes.
 -- Assumes nothing.
 use mathlib.Core.Path.{_≡_}
 use mathlib.Core.Bool.{true}

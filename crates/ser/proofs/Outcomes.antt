@@ -71,6 +71,11 @@ passes g s e =
       metadata-few = few-bytes (g .frames) (s .lent) a b first .1;
     }
 
+-- a game that `write` does not refuse, whatever the output
+pub not-refused : (g : Game) (s : Stores) (room : ℕ) → refusal g s room ≡ 0 → Passed g s
+unfolding refusal
+not-refused g s room e = passes g s (lowest-first 0 (judged g s) _ e)
+
 or-false : (a b : Bool) → (a || b) ≡ false → (a ≡ false) × (b ≡ false)
 or-false true b e = let z : _≡_ {A = ℕ} 0 1 = cc in absurd (omega arith)
 or-false false b e = (refl, e)
