@@ -19,15 +19,15 @@ use Rattle.layout.specs.Columns.{columnsOf, chosen, since, widthsOf}
 use Rattle.layout.proofs.Laws.{both, both-left, both-right}
 
 -- a version as old as a column
-abbrev of : Column → Version
+abbrev pub of : Column → Version
 of d = record { major = d .major; minor = d .minor; patch = 0 }
 
 -- d is not older than c, for each d of a list
-abbrev follow : Column → List Column → Bool
+abbrev pub follow : Column → List Column → Bool
 follow c [] = true
 follow c (d ∷ ds) = both (gteOf (of d) (c .major) (c .minor)) (follow c ds)
 
-abbrev ascending : List Column → Bool
+abbrev pub ascending : List Column → Bool
 ascending [] = true
 ascending (c ∷ cs) = both (follow c cs) (ascending cs)
 
@@ -41,7 +41,8 @@ older v c d p q =
     gte-below v (d .major) (d .minor) (omega arith) (λ (e : v .major ≡ d .major). let k = tie (omega arith) in omega arith))
     (gte-holds (of d) (c .major) (c .minor) q)
 
-none : (v : Version) (c : Column) (ds : List Column) → gteOf v (c .major) (c .minor) ≡ false → T (follow c ds) → since v ds ≡ []
+-- a version that lacks c has nothing of what follows it
+pub none : (v : Version) (c : Column) (ds : List Column) → gteOf v (c .major) (c .minor) ≡ false → T (follow c ds) → since v ds ≡ []
 unfolding chosen
 none v c [] p t = refl
 none v c (d ∷ ds) p t =
@@ -60,7 +61,8 @@ prefix v (c ∷ cs) t = go (gteOf v (c .major) (c .minor)) refl (prefix v cs (bo
     go true e ih = rw e (ap (λ (l : List ℕ). c .width ∷ l) ih)
     go false e ih = rw (e, none v c cs e (both-left (follow c cs) (ascending cs) t))
 
-rule : (f : Family) → T (ascending (columnsOf f))
+-- the table's rule, by one test a family
+pub rule : (f : Family) → T (ascending (columnsOf f))
 unfolding columnsOf gteOf above
 rule Pre = tt
 rule Post = tt

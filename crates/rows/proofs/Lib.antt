@@ -1,0 +1,4 @@
+pub mod Nan
+pub mod Records
+pub mod Lacking
+pub mod Exact

@@ -1,0 +1,27 @@
+-- `rows::small::dreamland_whispy_of` meets its contract: the row, with what each call ensures in its field.
+-- Assumes nothing.
+use borrow.Author.Needs.{needs}
+use lib.ListN.{getD}
+use Rattle.layout.specs.Columns.{columnsOf}
+use Rattle.rows.specs.Cells.{widthAt}
+use Rattle.rows.proofs.small.dreamland_whispy_of.Statement.{statement}
+use Rattle.rows.proofs.small.dreamland_whispy_of.Tie as tie
+
+returns : tie.Need-returns
+returns c =
+    let a = c .args in
+    let raw = a .t1 in
+    λ i. record {
+      version = a .version;
+      bits = raw;
+      direction = getD raw 0 0;
+    }
+
+pub dreamland-whispy-of-spec : {M : Type 1} → statement M
+unfolding widthAt columnsOf
+dreamland-whispy-of-spec =
+    tie.close
+    (tie.spec
+    (λ c. search needs)
+    (λ c. record { fits = c .pre 0 })
+    returns)

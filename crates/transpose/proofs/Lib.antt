@@ -1,0 +1,5 @@
+pub mod Judged
+pub mod Reach
+pub mod Slotting
+pub mod Only
+pub mod Cases

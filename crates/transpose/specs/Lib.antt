@@ -1,0 +1,5 @@
+pub mod Judge
+pub mod Records
+pub mod Ports
+pub mod Frame
+pub mod Answers

@@ -1,0 +1,210 @@
+// The row of a whole frame.
+ghost use mathlib.Core.Path.{_≡_};
+ghost use Prim.Native.Nat.{_<_};
+ghost use Rattle.frames.specs.Accepted.{Placed};
+ghost use Rattle.frames.specs.Stores.{cells, offsets, lent};
+ghost use Rattle.transpose.specs.Frame.{noRange, rangeAt, noFrame, frameOf, Showable};
+ghost use Rattle.transpose.specs.Answers.{frameRow};
+use super::fetch::end_at;
+use super::fetch::start_at;
+use super::judge::refused;
+use super::ports::no_port;
+use super::ports::ports_at;
+use format::signed::signed32;
+use frames::input::Frames;
+use layout::columns::Family;
+use rows::post::Post;
+use rows::pre::Pre;
+use rows::small::End;
+use rows::small::Start;
+use rows::small::no_end;
+use rows::small::no_start;
+
+// What a player does in a frame.
+#[repr(C)]
+pub struct Data {
+    pub pre: Pre,
+    pub post: Post,
+}
+
+// A port column's players: the leader, and the follower where one is given (1, or 0 where the follower is all zero).
+#[repr(C)]
+pub struct PortData {
+    pub port: u8,
+    pub follower_given: u8,
+    pub leader: Data,
+    pub follower: Data,
+}
+
+// The rows of a family that belong to a frame: the first, and how many.
+#[repr(C)]
+pub struct Range {
+    pub first: usize,
+    pub count: usize,
+}
+
+#[repr(C)]
+pub struct Frame {
+    pub id: i32,
+    pub port_count: usize,
+    pub ports: [PortData; 4],
+    pub start: Start,
+    pub end: End,
+    pub items: Range,
+    pub fod_platforms: Range,
+    pub dreamland_whispys: Range,
+    pub stadium_transformations: Range,
+}
+
+#[repr(C)]
+pub struct FrameRow {
+    pub refused: u8,
+    pub row: Frame,
+}
+
+fn no_range() -> Range
+    ensures { λ r. ⌜ r ≡ noRange ⌝ }
+{
+    Range { first: 0, count: 0 }
+}
+
+// 0 and 0 where the version lacks the family.
+fn range_at(f: Frames, family: Family, offsets: &[u32], index: usize) -> Range
+    requires { ⌜ Placed f family (now offsets) × (index < f .counts .frames) ⌝ }
+    ensures { λ r. ⌜ r ≡ rangeAt f family (now (offsets .entry)) index ⌝ }
+{
+    if family.exists(f.version) {
+        let first = offsets[index] as usize;
+        let next = offsets[index + 1] as usize;
+        return Range {
+            first,
+            count: next - first,
+        };
+    }
+    no_range()
+}
+
+fn no_frame() -> Frame
+    ensures { λ r. ⌜ r ≡ noFrame ⌝ }
+{
+    let none = no_port();
+    let ports = [none, none, none, none];
+    let start = no_start();
+    let end = no_end();
+    Frame {
+        id: 0,
+        port_count: 0,
+        ports,
+        start,
+        end,
+        items: no_range(),
+        fod_platforms: no_range(),
+        dreamland_whispys: no_range(),
+        stadium_transformations: no_range(),
+    }
+}
+
+fn frame_at(
+    f: Frames,
+    ids: &[u32],
+    starts: &[u32],
+    pres: &[u32],
+    posts: &[u32],
+    ends: &[u32],
+    item_offsets: &[u32],
+    fod_offsets: &[u32],
+    whispy_offsets: &[u32],
+    stadium_offsets: &[u32],
+    index: usize,
+) -> Frame
+    requires { ⌜ Showable f (now ids) (now starts) (now pres) (now posts) (now ends) (offsets (now «item_offsets») (now «fod_offsets») (now «whispy_offsets») (now «stadium_offsets»)) index ⌝ }
+    ensures { λ r. ⌜ r ≡ frameOf f (now (ids .entry)) (now (starts .entry)) (now (pres .entry)) (now (posts .entry)) (now (ends .entry)) (offsets (now («item_offsets» .entry)) (now («fod_offsets» .entry)) (now («whispy_offsets» .entry)) (now («stadium_offsets» .entry))) index ⌝ }
+{
+    let id = signed32(ids[index]);
+    let ports = ports_at(f, pres, posts, index);
+    let start = start_at(f, starts, index);
+    let end = end_at(f, ends, index);
+    let items = range_at(f, Family::Item, item_offsets, index);
+    let fod_platforms = range_at(f, Family::FodPlatform, fod_offsets, index);
+    let dreamland_whispys = range_at(f, Family::DreamlandWhispy, whispy_offsets, index);
+    let stadium_transformations = range_at(
+        f,
+        Family::StadiumTransformation,
+        stadium_offsets,
+        index,
+    );
+    Frame {
+        id,
+        port_count: f.port_count,
+        ports,
+        start,
+        end,
+        items,
+        fod_platforms,
+        dreamland_whispys,
+        stadium_transformations,
+    }
+}
+
+pub fn frame_row(
+    f: Frames,
+    ids: &[u32],
+    starts: &[u32],
+    pres: &[u32],
+    posts: &[u32],
+    ends: &[u32],
+    items: &[u32],
+    fods: &[u32],
+    whispys: &[u32],
+    stadiums: &[u32],
+    item_offsets: &[u32],
+    fod_offsets: &[u32],
+    whispy_offsets: &[u32],
+    stadium_offsets: &[u32],
+    presence: &[u8],
+    index: usize,
+) -> FrameRow
+    ensures { λ r. ⌜ r ≡ frameRow f (lent
+        (cells (now (ids .entry)) (now (starts .entry)) (now (pres .entry)) (now (posts .entry)) (now (ends .entry)) (now (items .entry)) (now (fods .entry)) (now (whispys .entry)) (now (stadiums .entry)))
+        (offsets (now («item_offsets» .entry)) (now («fod_offsets» .entry)) (now («whispy_offsets» .entry)) (now («stadium_offsets» .entry)))
+        (now (presence .entry))) index ⌝ }
+{
+    let n = refused(
+        f,
+        ids,
+        starts,
+        pres,
+        posts,
+        ends,
+        items,
+        fods,
+        whispys,
+        stadiums,
+        item_offsets,
+        fod_offsets,
+        whispy_offsets,
+        stadium_offsets,
+        presence,
+        Family::FrameStart,
+        0,
+        index,
+    );
+    if n != 0 {
+        let row = no_frame();
+        return FrameRow { refused: n, row };
+    }
+    let row = frame_at(
+        f,
+        ids,
+        starts,
+        pres,
+        posts,
+        ends,
+        item_offsets,
+        fod_offsets,
+        whispy_offsets,
+        stadium_offsets,
+        index,
+    );
+    FrameRow { refused: 0, row }
+}

@@ -1,0 +1,369 @@
+// The public calls for the row of one record: each judges all that is lent, and answers a number, 0 where the row is given, beside the row.
+ghost use mathlib.Core.Path.{_≡_};
+ghost use Rattle.frames.specs.Stores.{cells, offsets, lent};
+ghost use Rattle.transpose.specs.Answers.{preRow, postRow, itemRow, fodPlatformRow, dreamlandWhispyRow, stadiumTransformationRow};
+use super::fetch::dreamland_whispy_at;
+use super::fetch::fod_platform_at;
+use super::fetch::item_at;
+use super::fetch::post_at;
+use super::fetch::pre_at;
+use super::fetch::stadium_transformation_at;
+use super::judge::refused;
+use frames::input::Frames;
+use layout::columns::Family;
+use rows::item::Item;
+use rows::item::no_item;
+use rows::post::Post;
+use rows::post::no_post;
+use rows::pre::Pre;
+use rows::pre::no_pre;
+use rows::small::DreamlandWhispy;
+use rows::small::FodPlatform;
+use rows::small::StadiumTransformation;
+use rows::small::no_dreamland_whispy;
+use rows::small::no_fod_platform;
+use rows::small::no_stadium_transformation;
+
+#[repr(C)]
+pub struct PreRow {
+    pub refused: u8,
+    pub row: Pre,
+}
+
+#[repr(C)]
+pub struct PostRow {
+    pub refused: u8,
+    pub row: Post,
+}
+
+#[repr(C)]
+pub struct ItemRow {
+    pub refused: u8,
+    pub row: Item,
+}
+
+#[repr(C)]
+pub struct FodPlatformRow {
+    pub refused: u8,
+    pub row: FodPlatform,
+}
+
+#[repr(C)]
+pub struct DreamlandWhispyRow {
+    pub refused: u8,
+    pub row: DreamlandWhispy,
+}
+
+#[repr(C)]
+pub struct StadiumTransformationRow {
+    pub refused: u8,
+    pub row: StadiumTransformation,
+}
+
+pub fn pre_row(
+    f: Frames,
+    ids: &[u32],
+    starts: &[u32],
+    pres: &[u32],
+    posts: &[u32],
+    ends: &[u32],
+    items: &[u32],
+    fods: &[u32],
+    whispys: &[u32],
+    stadiums: &[u32],
+    item_offsets: &[u32],
+    fod_offsets: &[u32],
+    whispy_offsets: &[u32],
+    stadium_offsets: &[u32],
+    presence: &[u8],
+    slot: usize,
+    index: usize,
+) -> PreRow
+    ensures { λ r. ⌜ r ≡ preRow f (lent
+        (cells (now (ids .entry)) (now (starts .entry)) (now (pres .entry)) (now (posts .entry)) (now (ends .entry)) (now (items .entry)) (now (fods .entry)) (now (whispys .entry)) (now (stadiums .entry)))
+        (offsets (now («item_offsets» .entry)) (now («fod_offsets» .entry)) (now («whispy_offsets» .entry)) (now («stadium_offsets» .entry)))
+        (now (presence .entry))) slot index ⌝ }
+{
+    let n = refused(
+        f,
+        ids,
+        starts,
+        pres,
+        posts,
+        ends,
+        items,
+        fods,
+        whispys,
+        stadiums,
+        item_offsets,
+        fod_offsets,
+        whispy_offsets,
+        stadium_offsets,
+        presence,
+        Family::Pre,
+        slot,
+        index,
+    );
+    if n != 0 {
+        let row = no_pre();
+        return PreRow { refused: n, row };
+    }
+    let row = pre_at(f, pres, slot, index);
+    PreRow { refused: 0, row }
+}
+
+pub fn post_row(
+    f: Frames,
+    ids: &[u32],
+    starts: &[u32],
+    pres: &[u32],
+    posts: &[u32],
+    ends: &[u32],
+    items: &[u32],
+    fods: &[u32],
+    whispys: &[u32],
+    stadiums: &[u32],
+    item_offsets: &[u32],
+    fod_offsets: &[u32],
+    whispy_offsets: &[u32],
+    stadium_offsets: &[u32],
+    presence: &[u8],
+    slot: usize,
+    index: usize,
+) -> PostRow
+    ensures { λ r. ⌜ r ≡ postRow f (lent
+        (cells (now (ids .entry)) (now (starts .entry)) (now (pres .entry)) (now (posts .entry)) (now (ends .entry)) (now (items .entry)) (now (fods .entry)) (now (whispys .entry)) (now (stadiums .entry)))
+        (offsets (now («item_offsets» .entry)) (now («fod_offsets» .entry)) (now («whispy_offsets» .entry)) (now («stadium_offsets» .entry)))
+        (now (presence .entry))) slot index ⌝ }
+{
+    let n = refused(
+        f,
+        ids,
+        starts,
+        pres,
+        posts,
+        ends,
+        items,
+        fods,
+        whispys,
+        stadiums,
+        item_offsets,
+        fod_offsets,
+        whispy_offsets,
+        stadium_offsets,
+        presence,
+        Family::Post,
+        slot,
+        index,
+    );
+    if n != 0 {
+        let row = no_post();
+        return PostRow { refused: n, row };
+    }
+    let row = post_at(f, posts, slot, index);
+    PostRow { refused: 0, row }
+}
+
+pub fn item_row(
+    f: Frames,
+    ids: &[u32],
+    starts: &[u32],
+    pres: &[u32],
+    posts: &[u32],
+    ends: &[u32],
+    items: &[u32],
+    fods: &[u32],
+    whispys: &[u32],
+    stadiums: &[u32],
+    item_offsets: &[u32],
+    fod_offsets: &[u32],
+    whispy_offsets: &[u32],
+    stadium_offsets: &[u32],
+    presence: &[u8],
+    index: usize,
+) -> ItemRow
+    ensures { λ r. ⌜ r ≡ itemRow f (lent
+        (cells (now (ids .entry)) (now (starts .entry)) (now (pres .entry)) (now (posts .entry)) (now (ends .entry)) (now (items .entry)) (now (fods .entry)) (now (whispys .entry)) (now (stadiums .entry)))
+        (offsets (now («item_offsets» .entry)) (now («fod_offsets» .entry)) (now («whispy_offsets» .entry)) (now («stadium_offsets» .entry)))
+        (now (presence .entry))) index ⌝ }
+{
+    let n = refused(
+        f,
+        ids,
+        starts,
+        pres,
+        posts,
+        ends,
+        items,
+        fods,
+        whispys,
+        stadiums,
+        item_offsets,
+        fod_offsets,
+        whispy_offsets,
+        stadium_offsets,
+        presence,
+        Family::Item,
+        0,
+        index,
+    );
+    if n != 0 {
+        let row = no_item();
+        return ItemRow { refused: n, row };
+    }
+    let row = item_at(f, items, index);
+    ItemRow { refused: 0, row }
+}
+
+pub fn fod_platform_row(
+    f: Frames,
+    ids: &[u32],
+    starts: &[u32],
+    pres: &[u32],
+    posts: &[u32],
+    ends: &[u32],
+    items: &[u32],
+    fods: &[u32],
+    whispys: &[u32],
+    stadiums: &[u32],
+    item_offsets: &[u32],
+    fod_offsets: &[u32],
+    whispy_offsets: &[u32],
+    stadium_offsets: &[u32],
+    presence: &[u8],
+    index: usize,
+) -> FodPlatformRow
+    ensures { λ r. ⌜ r ≡ fodPlatformRow f (lent
+        (cells (now (ids .entry)) (now (starts .entry)) (now (pres .entry)) (now (posts .entry)) (now (ends .entry)) (now (items .entry)) (now (fods .entry)) (now (whispys .entry)) (now (stadiums .entry)))
+        (offsets (now («item_offsets» .entry)) (now («fod_offsets» .entry)) (now («whispy_offsets» .entry)) (now («stadium_offsets» .entry)))
+        (now (presence .entry))) index ⌝ }
+{
+    let n = refused(
+        f,
+        ids,
+        starts,
+        pres,
+        posts,
+        ends,
+        items,
+        fods,
+        whispys,
+        stadiums,
+        item_offsets,
+        fod_offsets,
+        whispy_offsets,
+        stadium_offsets,
+        presence,
+        Family::FodPlatform,
+        0,
+        index,
+    );
+    if n != 0 {
+        let row = no_fod_platform();
+        return FodPlatformRow { refused: n, row };
+    }
+    let row = fod_platform_at(f, fods, index);
+    FodPlatformRow { refused: 0, row }
+}
+
+pub fn dreamland_whispy_row(
+    f: Frames,
+    ids: &[u32],
+    starts: &[u32],
+    pres: &[u32],
+    posts: &[u32],
+    ends: &[u32],
+    items: &[u32],
+    fods: &[u32],
+    whispys: &[u32],
+    stadiums: &[u32],
+    item_offsets: &[u32],
+    fod_offsets: &[u32],
+    whispy_offsets: &[u32],
+    stadium_offsets: &[u32],
+    presence: &[u8],
+    index: usize,
+) -> DreamlandWhispyRow
+    ensures { λ r. ⌜ r ≡ dreamlandWhispyRow f (lent
+        (cells (now (ids .entry)) (now (starts .entry)) (now (pres .entry)) (now (posts .entry)) (now (ends .entry)) (now (items .entry)) (now (fods .entry)) (now (whispys .entry)) (now (stadiums .entry)))
+        (offsets (now («item_offsets» .entry)) (now («fod_offsets» .entry)) (now («whispy_offsets» .entry)) (now («stadium_offsets» .entry)))
+        (now (presence .entry))) index ⌝ }
+{
+    let n = refused(
+        f,
+        ids,
+        starts,
+        pres,
+        posts,
+        ends,
+        items,
+        fods,
+        whispys,
+        stadiums,
+        item_offsets,
+        fod_offsets,
+        whispy_offsets,
+        stadium_offsets,
+        presence,
+        Family::DreamlandWhispy,
+        0,
+        index,
+    );
+    if n != 0 {
+        let row = no_dreamland_whispy();
+        return DreamlandWhispyRow { refused: n, row };
+    }
+    let row = dreamland_whispy_at(f, whispys, index);
+    DreamlandWhispyRow { refused: 0, row }
+}
+
+pub fn stadium_transformation_row(
+    f: Frames,
+    ids: &[u32],
+    starts: &[u32],
+    pres: &[u32],
+    posts: &[u32],
+    ends: &[u32],
+    items: &[u32],
+    fods: &[u32],
+    whispys: &[u32],
+    stadiums: &[u32],
+    item_offsets: &[u32],
+    fod_offsets: &[u32],
+    whispy_offsets: &[u32],
+    stadium_offsets: &[u32],
+    presence: &[u8],
+    index: usize,
+) -> StadiumTransformationRow
+    ensures { λ r. ⌜ r ≡ stadiumTransformationRow f (lent
+        (cells (now (ids .entry)) (now (starts .entry)) (now (pres .entry)) (now (posts .entry)) (now (ends .entry)) (now (items .entry)) (now (fods .entry)) (now (whispys .entry)) (now (stadiums .entry)))
+        (offsets (now («item_offsets» .entry)) (now («fod_offsets» .entry)) (now («whispy_offsets» .entry)) (now («stadium_offsets» .entry)))
+        (now (presence .entry))) index ⌝ }
+{
+    let n = refused(
+        f,
+        ids,
+        starts,
+        pres,
+        posts,
+        ends,
+        items,
+        fods,
+        whispys,
+        stadiums,
+        item_offsets,
+        fod_offsets,
+        whispy_offsets,
+        stadium_offsets,
+        presence,
+        Family::StadiumTransformation,
+        0,
+        index,
+    );
+    if n != 0 {
+        let row = no_stadium_transformation();
+        return StadiumTransformationRow { refused: n, row };
+    }
+    let row = stadium_transformation_at(f, stadiums, index);
+    StadiumTransformationRow { refused: 0, row }
+}
