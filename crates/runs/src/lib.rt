@@ -1,0 +1,4 @@
+// The twelve cases, run through the public calls.
+mod count;
+pub mod row;
+pub mod run;
