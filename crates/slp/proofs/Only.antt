@@ -1,0 +1,18 @@
+-- No second outcome: what an exported call answers and what it leaves in the lent bytes follow from its inputs, on a refusal too.
+-- The reader's two calls answer by an equation, which leaves one answer.
+-- Assumes nothing.
+use Prim.Native.Nat.{ℕ}
+use mathlib.Core.Path.{_≡_, sym, _∙_}
+use mathlib.Core.List.{List}
+use Rattle.ser.specs.Write.{Stores}
+use Rattle.ser.specs.declared.game.Game.{Game}
+use Rattle.slp.specs.declared.answers.SlpWritten.{SlpWritten}
+use Rattle.slp.specs.Outcomes.{MaskOutcome, WriteOutcome}
+
+pub only-mask : {ids mask scratch m m′ s s′ : List ℕ} {keep n n′ : ℕ} →
+    MaskOutcome ids keep mask scratch n m s → MaskOutcome ids keep mask scratch n′ m′ s′ → (n ≡ n′) × (m ≡ m′) × (s ≡ s′)
+only-mask p q = (p .number-is ∙ sym (q .number-is), p .mask-is ∙ sym (q .mask-is), p .scratch-is ∙ sym (q .scratch-is))
+
+pub only-write : {g : Game} {s : Stores} {out a b : List ℕ} {q r : SlpWritten} →
+    WriteOutcome g s out q a → WriteOutcome g s out r b → (q ≡ r) × (a ≡ b)
+only-write x y = (x .answer-is ∙ sym (y .answer-is), x .out-is ∙ sym (y .out-is))

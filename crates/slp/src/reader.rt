@@ -1,0 +1,23 @@
+// The reader.
+ghost use mathlib.Core.Path.{_≡_};
+ghost use Rattle.de.specs.Step.{stepOf};
+ghost use Rattle.de.specs.Walk.{walkOf};
+ghost use Rattle.slp.specs.Answers.{stepped, walked};
+use super::answers::SlpStep;
+use super::answers::SlpWalked;
+use super::answers::step_numbers;
+use super::answers::walk_numbers;
+
+#[no_mangle]
+pub extern "C" fn slp_step_at(file: &[u8], place: usize) -> SlpStep
+    ensures { λ r. ⌜ r ≡ stepped (stepOf (now (file .entry)) place) ⌝ }
+{
+    step_numbers(de::step_at(file, place))
+}
+
+#[no_mangle]
+pub extern "C" fn slp_walk(file: &[u8]) -> SlpWalked
+    ensures { λ r. ⌜ r ≡ walked (walkOf (now (file .entry))) ⌝ }
+{
+    walk_numbers(de::walk(file))
+}

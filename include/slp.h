@@ -1,0 +1,567 @@
+/* slp.h: Slippi replays, written and read. Link libslp.a; C11 or C++11, x86-64.
+ *
+ * Every call takes every input, ends, and answers with a refusal number or 0. A refused call changes no byte that is lent to it.
+ * Nothing is allocated, nothing is kept between calls, and calls on different memory may run at the same time.
+ *
+ * A lent slice is a pointer and a count of elements. With a count of 0 the pointer may be NULL. Slices that are written (out, mask,
+ * scratch) must not overlap another slice of the same call. Cells must be aligned to four bytes.
+ *
+ * A mark is a byte: 0 is no, everything else is yes. Floats and signed numbers are their bits wherever a field or cell is unsigned.
+ */
+#ifndef SLP_H
+#define SLP_H
+
+#include <stddef.h>
+#include <stdint.h>
+
+#ifdef __cplusplus
+extern "C" {
+#endif
+
+/* ---- refusals: the lowest number that applies is given */
+
+enum {
+	SLP_OK = 0,
+	SLP_VERSION_TOO_NEW = 1,    /* version above 3.18.0 */
+	SLP_TOO_MANY = 2,           /* a count exceeds its maximum (SLP_MAX_...) */
+	SLP_BAD_STORE = 3,          /* a cell store's length is not columns of this version times rows (times slots) */
+	SLP_WIDE_CELL = 4,          /* a cell exceeds its width, absent players' rows included */
+	SLP_BAD_OFFSETS = 5,        /* offsets: not frames + 1, first not 0, one falls, last not rows; or a family that the version lacks */
+	SLP_BAD_PRESENCE = 6,       /* presence bits neither empty nor ceil(frames / 8) bytes */
+	SLP_BAD_PORTS = 7,          /* over four port columns, a port above 3, or a port twice */
+	SLP_BAD_BLOCK = 8,          /* start block shorter than the version's length, or over 65,535 */
+	SLP_BAD_START = 9,          /* a start field missing, a player type above 2, CPU without level, or a text too long */
+	SLP_BAD_CODES = 10,         /* codes before 3.3, or not the actual size rounded up to 512 */
+	SLP_BAD_END = 11,           /* double end without an end, or, from 2.0, an initiator outside -1..3 */
+	SLP_SHORT_OUTPUT = 12,      /* output, mask or scratch too short */
+	SLP_OUT_OF_RANGE = 13,      /* mask: an id below -123 or above 1,048,452; row: no such frame, row or slot */
+	SLP_NOT_A_REPLAY = 14,      /* reader: under 15 bytes or wrong signature */
+	SLP_BAD_TABLE = 15,         /* reader: payload table absent, not whole, damaged, or a code twice */
+	SLP_UNKNOWN_EVENT = 16,     /* reader: code not in the table */
+	SLP_BAD_PLACE = 17          /* reader: event overruns the event data; or a place outside it */
+};
+
+/* ---- maxima */
+
+#define SLP_MAX_FRAMES 1048576u
+#define SLP_MAX_ITEMS 4194304u
+#define SLP_MAX_STAGE_ROWS 1048576u   /* of each stage family */
+#define SLP_MAX_CODES 16777216u       /* bytes, padded */
+#define SLP_MAX_METADATA 65535u       /* bytes */
+#define SLP_FIRST_FRAME_ID (-123)
+#define SLP_LAST_FRAME_ID 1048452
+
+/* ---- event codes */
+
+enum {
+	SLP_EVENT_MESSAGE_SPLITTER = 0x10,
+	SLP_EVENT_PAYLOADS = 0x35,
+	SLP_EVENT_GAME_START = 0x36,
+	SLP_EVENT_FRAME_PRE = 0x37,
+	SLP_EVENT_FRAME_POST = 0x38,
+	SLP_EVENT_GAME_END = 0x39,
+	SLP_EVENT_FRAME_START = 0x3a,
+	SLP_EVENT_ITEM = 0x3b,
+	SLP_EVENT_FRAME_END = 0x3c,
+	SLP_EVENT_GECKO_CODES = 0x3d,
+	SLP_EVENT_FOD_PLATFORM = 0x3f,
+	SLP_EVENT_DREAMLAND_WHISPY = 0x40,
+	SLP_EVENT_STADIUM_TRANSFORMATION = 0x41
+};
+
+/* ======== reading ======== */
+
+/* What stands at a place. */
+enum { SLP_STEP_EVENT = 0, SLP_STEP_ENDS = 1, SLP_STEP_CUT = 2, SLP_STEP_REFUSED = 3 };
+
+typedef struct {
+	uint8_t kind;      /* SLP_STEP_... */
+	uint8_t refused;   /* SLP_STEP_REFUSED: the refusal, 14 to 17; else 0 */
+	uint8_t code;      /* SLP_STEP_EVENT: the event's code, and the numbers below but offset; else 0 */
+	size_t offset;     /* SLP_STEP_REFUSED: the file offset that the refusal names; else 0 */
+	size_t at;         /* where the event stands */
+	size_t payload;    /* where its payload begins */
+	size_t len;        /* how many bytes the payload has */
+	size_t next;       /* the place after it */
+} slp_step;
+
+/* The event at a place of a replay, whole or cut. The first event after the payload table stands at 16 + file[16], once the table is
+ * whole; from there `next` leads on. Any number is taken as a place: one that is not in the event data is refused 17. Each call reads the table
+ * anew; slp_walk reads it once. The example wants a file of over 16 bytes.
+ *
+ *     size_t place = 16 + file[16];
+ *     slp_step s;
+ *     while ((s = slp_step_at(file, len, place)).kind == SLP_STEP_EVENT) {
+ *         printf("%02x at %zu, %zu bytes\n", s.code, s.at, s.len);
+ *         place = s.next;
+ *     }
+ */
+slp_step slp_step_at(const uint8_t *file, size_t file_len, size_t place);
+
+typedef struct {
+	uint8_t refused;   /* 0, or 14 to 17 */
+	uint8_t whole;     /* 1 if all declared bytes of event data are present, 0 if they are cut */
+	size_t offset;     /* the file offset that a refusal names; else 0 */
+	size_t events;     /* whole events after the payload table */
+	size_t stray;      /* bytes of event data after the last whole event */
+	size_t place;      /* where the walk stopped */
+} slp_walked;
+
+/* All events of a replay, whole or cut. Nothing is claimed of bytes after the event data. On a refusal all numbers but `refused` and
+ * `offset` are 0.
+ *
+ *     slp_walked w = slp_walk(file, len);
+ *     if (w.refused) printf("refused %u at %zu\n", w.refused, w.offset);
+ *     else printf("%zu events, %zu stray bytes, %s\n", w.events, w.stray, w.whole ? "whole" : "cut");
+ */
+slp_walked slp_walk(const uint8_t *file, size_t file_len);
+
+/* ======== rollback masks ======== */
+
+enum { SLP_EXCEPT_FIRST = 0, SLP_EXCEPT_LAST = 1 };
+
+/* One byte of mask a frame: with SLP_EXCEPT_FIRST 0 at an id's first frame, with SLP_EXCEPT_LAST (or any other number but 0) at its last;
+ * 1 at the others. `ids` are int32 by their bits, from SLP_FIRST_FRAME_ID to SLP_LAST_FRAME_ID. `scratch` needs the largest id + 124
+ * bytes, none for no frames, and then has 1 where that id occurs, else 0. Bytes beyond both stay. Answers 0, or 2, 12 for a short mask,
+ * 13, 12 for a short scratch, judged in that order.
+ *
+ *     uint32_t ids[4] = { (uint32_t)-123, (uint32_t)-122, (uint32_t)-122, (uint32_t)-121 };
+ *     uint8_t mask[4], scratch[3];
+ *     slp_rollbacks(ids, 4, SLP_EXCEPT_FIRST, mask, 4, scratch, 3);    // mask is 0 0 1 0
+ */
+uint8_t slp_rollbacks(const uint32_t *ids, size_t ids_len, uint8_t keep, uint8_t *mask, size_t mask_len, uint8_t *scratch,
+                      size_t scratch_len);
+
+/* ======== games ======== */
+
+typedef struct {
+	uint8_t major, minor, patch;
+} slp_version;
+
+/* How many rows the families have. */
+typedef struct {
+	size_t frames, items, fods, whispys, stadiums;
+} slp_counts;
+
+/* A port column: its port (0 to 3), whether it has a follower, and how many presence bytes leader and follower have: 0 (always present)
+ * or ceil(frames / 8). Without a follower `follower_presence` must be 0. */
+typedef struct {
+	uint8_t port;
+	uint8_t follower;   /* a mark */
+	size_t leader_presence;
+	size_t follower_presence;
+} slp_port_column;
+
+typedef struct {
+	slp_version version;
+	slp_counts counts;
+	slp_port_column ports[4];
+	size_t port_count;
+} slp_frames;
+
+/* A text: the first `len` bytes. */
+typedef struct {
+	uint8_t bytes[50];
+	size_t len;
+} slp_text;
+
+typedef struct {
+	uint8_t given;   /* a mark */
+	uint8_t value;
+} slp_optional;
+
+typedef struct {
+	uint8_t given;   /* a mark: without a team the block keeps the template's colour and shade */
+	uint8_t color, shade;
+} slp_team;
+
+typedef struct {
+	uint8_t given;   /* a mark */
+	uint32_t dash_back, shield_drop;
+} slp_ucf;
+
+/* Names of at most 30 bytes, connect codes of 9, Slippi user ids of 28. */
+typedef struct {
+	uint8_t given;        /* a mark, for name and code */
+	slp_text name, code;
+	uint8_t suid_given;   /* a mark */
+	slp_text suid;
+} slp_netplay;
+
+enum { SLP_HUMAN = 0, SLP_CPU = 1, SLP_DEMO = 2 };
+
+/* A port's player, who may be missing. */
+typedef struct {
+	uint8_t given;   /* a mark */
+	uint8_t character;
+	uint8_t kind;    /* SLP_HUMAN, SLP_CPU or SLP_DEMO */
+	uint8_t stocks;
+	uint8_t costume;
+	slp_team team;
+	uint8_t handicap;
+	uint8_t bitfield;
+	slp_optional cpu_level;
+	uint16_t damage_start, damage_spawn;
+	uint32_t offense_ratio, defense_ratio, model_scale;   /* floats by their bits */
+	slp_ucf ucf;
+	uint8_t name_tag_given;   /* a mark */
+	slp_text name_tag;        /* at most 16 bytes */
+	slp_netplay netplay;
+} slp_seat;
+
+typedef struct {
+	uint8_t given;   /* a mark */
+	uint8_t minor, major;
+} slp_scene;
+
+typedef struct {
+	uint8_t given;   /* a mark */
+	slp_text id;     /* at most 50 bytes */
+	uint32_t game, tiebreaker;
+} slp_match;
+
+/* What the start block says. Seat n is port n. Fields that the version does not write are ignored. */
+typedef struct {
+	uint8_t bitfield[4];
+	uint8_t is_raining_bombs, is_teams;   /* marks, written as 1 or 0 */
+	uint8_t item_spawn_frequency, self_destruct_score;
+	uint16_t stage;
+	uint32_t timer;
+	uint8_t item_spawn_bitfield[5];
+	uint32_t damage_ratio;   /* a float by its bits */
+	slp_seat seats[4];
+	uint32_t random_seed;
+	slp_optional is_pal, is_frozen_ps;   /* their values are marks, written as 1 or 0 */
+	slp_scene scene;
+	slp_optional language;
+	slp_match match_info;
+} slp_start;
+
+typedef struct {
+	uint8_t given;   /* a mark */
+	uint8_t method;
+	uint8_t initiator;       /* 0 to 3, or 255 for none */
+	uint8_t placed[4];       /* marks: a port without one gets 255 as its placement */
+	uint8_t placements[4];
+} slp_end;
+
+typedef struct {
+	slp_frames frames;
+	slp_start start;
+	slp_end end;
+	uint8_t double_end;       /* a mark: GameEnd is written twice */
+	uint8_t codes_given;      /* a mark: codes are ignored without it */
+	uint8_t metadata_given;   /* a mark: metadata is ignored without it */
+	uint32_t actual_size;     /* bytes of the cheat codes before they were padded to blocks of 512 */
+} slp_game;
+
+/* ======== the stores that are lent with a game ========
+ *
+ * Cells are 32-bit, columns one after another, as many columns as the version has:
+ *   ids               a frame's id a cell
+ *   starts, ends      FrameStart and FrameEnd, a row a frame
+ *   pres, posts       slot after slot; the cell is at (slot * columns + column) * frames + frame. Slots are leader, then follower where
+ *                     there is one, of each port column in order
+ *   items, fods, whispys, stadiums    rows of items and of the stage families
+ *   ..._offsets       frames + 1 numbers: frame i has the rows from offset i on and before offset i + 1; empty before the family's version
+ *   presence          the slots' presence bytes one after another; bit i % 8 of byte i / 8, lowest first
+ *
+ * The columns, each with its width in bytes (a cell may not exceed it) and, if it is not the first, the version from which it is there:
+ *   starts     random_seed 4; scene_frame_counter 4 (3.10). None before 2.2
+ *   ends       latest_finalized_frame 4 (3.7)
+ *   pres       random_seed 4, state 2, position 4 4, direction 4, joystick 4 4, cstick 4 4, triggers 4, buttons 4, buttons_physical 2,
+ *              triggers_physical 4 4; raw_analog_x 1 (1.2); percent 4 (1.4); raw_analog_y 1 (3.15); raw_analog_cstick 1 1 (3.17)
+ *   posts      character 1, state 2, position 4 4, direction 4, percent 4, shield 4, last_attack_landed 1, combo_count 1, last_hit_by 1,
+ *              stocks 1; state_age 4 (0.2); state_flags 1 1 1 1 1, misc_as 4, airborne 1, ground 2, jumps 1, l_cancel 1 (2.0);
+ *              hurtbox_state 1 (2.1); velocities 4 4 4 4 4 (3.5); hitlag 4 (3.8); animation_index 4 (3.11);
+ *              last_hit_by_instance 2, instance_id 2 (3.16)
+ *   items      type 2, state 1, direction 4, velocity 4 4, position 4 4, damage 2, timer 4, id 4; misc 1 1 1 1 (3.2); owner 1 (3.6);
+ *              instance_id 2 (3.16). None before 3.0
+ *   fods       platform 1, height 4. None before 3.18
+ *   whispys    direction 1. None before 3.18
+ *   stadiums   event 2, type 2. None before 3.18
+ */
+
+/* The parameters of the fourteen lent stores, as they stand in the calls below: for each a pointer and a count. */
+#define SLP_STORE_PARAMETERS \
+	const uint32_t *ids, size_t ids_len, const uint32_t *starts, size_t starts_len, const uint32_t *pres, size_t pres_len, \
+	const uint32_t *posts, size_t posts_len, const uint32_t *ends, size_t ends_len, const uint32_t *items, size_t items_len, \
+	const uint32_t *fods, size_t fods_len, const uint32_t *whispys, size_t whispys_len, \
+	const uint32_t *stadiums, size_t stadiums_len, const uint32_t *item_offsets, size_t item_offsets_len, \
+	const uint32_t *fod_offsets, size_t fod_offsets_len, const uint32_t *whispy_offsets, size_t whispy_offsets_len, \
+	const uint32_t *stadium_offsets, size_t stadium_offsets_len, const uint8_t *presence, size_t presence_len
+
+/* The same as one struct, for slp_write_game and for SLP_STORES below. */
+typedef struct {
+	const uint32_t *p;
+	size_t len;
+} slp_cells;
+
+typedef struct {
+	const uint8_t *p;
+	size_t len;
+} slp_bytes;
+
+typedef struct {
+	slp_cells ids, starts, pres, posts, ends, items, fods, whispys, stadiums;
+	slp_cells item_offsets, fod_offsets, whispy_offsets, stadium_offsets;
+	slp_bytes presence;
+} slp_stores;
+
+/* A struct's slices as arguments. */
+#define SLP_STORES(s) \
+	(s)->ids.p, (s)->ids.len, (s)->starts.p, (s)->starts.len, (s)->pres.p, (s)->pres.len, (s)->posts.p, (s)->posts.len, \
+	(s)->ends.p, (s)->ends.len, (s)->items.p, (s)->items.len, (s)->fods.p, (s)->fods.len, (s)->whispys.p, (s)->whispys.len, \
+	(s)->stadiums.p, (s)->stadiums.len, (s)->item_offsets.p, (s)->item_offsets.len, (s)->fod_offsets.p, (s)->fod_offsets.len, \
+	(s)->whispy_offsets.p, (s)->whispy_offsets.len, (s)->stadium_offsets.p, (s)->stadium_offsets.len, \
+	(s)->presence.p, (s)->presence.len
+
+/* ======== writing ======== */
+
+typedef struct {
+	uint8_t refused;   /* 0, or 1 to 12 */
+	size_t len;        /* the file's length; 0 on a refusal */
+} slp_written;
+
+/* The replay file of a game, at the start of `out`; bytes past the file stay.
+ *
+ *   template_block    the start block whose unnamed bytes are kept; its length is GameStart's size
+ *   codes             cheat codes, padded to blocks of 512 bytes
+ *   metadata          the body of an encoded map
+ *
+ * slp_write_game below takes the slices as structs.
+ */
+slp_written slp_write(uint8_t *out, size_t out_len, slp_game game,
+                      SLP_STORE_PARAMETERS,
+                      const uint8_t *template_block, size_t template_len,
+                      const uint8_t *codes, size_t codes_len,
+                      const uint8_t *metadata, size_t metadata_len);
+
+/* Room for the file of any game whose counts are within the maxima: what a file of the newest version takes with all its players present. Most
+ * files are shorter; slp_write says how long a file is. */
+static inline size_t slp_room(const slp_game *game, size_t template_len, size_t codes_len, size_t metadata_len)
+{
+	const slp_counts *n = &game->frames.counts;
+	size_t slots = 2 * (game->frames.port_count < 4 ? game->frames.port_count : 4);
+
+	return 81 + template_len + codes_len / 512 * 517 + metadata_len + n->frames * (22 + 152 * slots) + n->items * 45 + n->fods * 10
+	       + n->whispys * 6 + n->stadiums * 9;
+}
+
+/* As slp_write.
+ *
+ *     slp_game game = { .frames = { .version = { 0, 1, 0 } } };    // no frames, no end
+ *     slp_stores stores = { 0 };
+ *     uint8_t block[320] = { 0 }, out[351];
+ *     slp_bytes none = { NULL, 0 }, start = { block, sizeof block };
+ *     slp_written w = slp_write_game(out, sizeof out, &game, &stores, start, none, none);    // w.len is 351
+ */
+static inline slp_written slp_write_game(uint8_t *out, size_t out_len, const slp_game *game, const slp_stores *s,
+                                         slp_bytes template_block, slp_bytes codes, slp_bytes metadata)
+{
+	return slp_write(out, out_len, *game, SLP_STORES(s), template_block.p, template_block.len, codes.p, codes.len, metadata.p,
+	                 metadata.len);
+}
+
+/* ======== rows ========
+ *
+ * One record of a game as a struct with named fields. Fields that the version lacks are 0. Presence is not looked at. `bits` has the record's
+ * cells as they are, in the order of its columns: a float field is the float of its cell, and all patterns of a NaN are one NaN there, so look
+ * into `bits` for the pattern. Each call judges all stores, as slp_write does, and then reads one record. */
+
+typedef struct {
+	float x, y;
+} slp_position;
+
+typedef struct {
+	float x, y;
+} slp_velocity;
+
+typedef struct {
+	float l, r;
+} slp_triggers_physical;
+
+typedef struct {
+	float self_x_air, self_y, knockback_x, knockback_y, self_x_ground;
+} slp_velocities;
+
+typedef struct {
+	slp_version version;
+	uint32_t bits[32];
+	uint32_t random_seed;
+	uint16_t state;
+	slp_position position;
+	float direction;
+	slp_position joystick, cstick;
+	float triggers;
+	uint32_t buttons;
+	uint16_t buttons_physical;
+	slp_triggers_physical triggers_physical;
+	int8_t raw_analog_x;          /* from 1.2 */
+	float percent;                /* from 1.4 */
+	int8_t raw_analog_y;          /* from 3.15 */
+	int8_t raw_analog_cstick_x;   /* from 3.17 */
+	int8_t raw_analog_cstick_y;   /* from 3.17 */
+} slp_pre;
+
+typedef struct {
+	slp_version version;
+	uint32_t bits[32];
+	uint8_t character;
+	uint16_t state;
+	slp_position position;
+	float direction, percent, shield;
+	uint8_t last_attack_landed, combo_count, last_hit_by, stocks;
+	float state_age;                 /* from 0.2 */
+	uint8_t state_flags[5];          /* from 2.0, as the next five */
+	float misc_as;
+	uint8_t airborne;
+	uint16_t ground;
+	uint8_t jumps, l_cancel;
+	uint8_t hurtbox_state;           /* from 2.1 */
+	slp_velocities velocities;       /* from 3.5 */
+	float hitlag;                    /* from 3.8 */
+	uint32_t animation_index;        /* from 3.11 */
+	uint16_t last_hit_by_instance;   /* from 3.16 */
+	uint16_t instance_id;            /* from 3.16 */
+} slp_post;
+
+typedef struct {
+	slp_version version;
+	uint32_t bits[32];
+	uint16_t type_id;
+	uint8_t state;
+	float direction;
+	slp_velocity velocity;
+	slp_position position;
+	uint16_t damage;
+	float timer;
+	uint32_t id;
+	uint8_t misc[4];        /* from 3.2 */
+	int8_t owner;           /* from 3.6 */
+	uint16_t instance_id;   /* from 3.16 */
+} slp_item;
+
+typedef struct {
+	slp_version version;
+	uint32_t bits[32];
+	uint32_t random_seed;           /* from 2.2 */
+	uint32_t scene_frame_counter;   /* from 3.10 */
+} slp_frame_start;
+
+typedef struct {
+	slp_version version;
+	uint32_t bits[32];
+	int32_t latest_finalized_frame;   /* from 3.7 */
+} slp_frame_end;
+
+typedef struct {
+	slp_version version;
+	uint32_t bits[32];
+	uint8_t platform;
+	float height;
+} slp_fod_platform;
+
+typedef struct {
+	slp_version version;
+	uint32_t bits[32];
+	uint8_t direction;
+} slp_dreamland_whispy;
+
+typedef struct {
+	slp_version version;
+	uint32_t bits[32];
+	uint16_t event, type_id;
+} slp_stadium_transformation;
+
+typedef struct {
+	slp_pre pre;
+	slp_post post;
+} slp_data;
+
+typedef struct {
+	uint8_t port;
+	uint8_t follower_given;   /* 1 or 0 */
+	slp_data leader;
+	slp_data follower;        /* all 0 where there is none */
+} slp_port_data;
+
+/* Which rows of a family a frame has: 0 and 0 where the version lacks the family. */
+typedef struct {
+	size_t first, count;
+} slp_range;
+
+typedef struct {
+	int32_t id;
+	size_t port_count;
+	slp_port_data ports[4];   /* in the order of the port columns; the rest is all 0 */
+	slp_frame_start start;
+	slp_frame_end end;
+	slp_range items, fod_platforms, dreamland_whispys, stadium_transformations;
+} slp_frame;
+
+/* The answers: `refused` is 0, or 1 to 7 as for slp_write, or 13 where there is no such frame, row or slot; then the row is all 0. */
+typedef struct {
+	uint8_t refused;
+	slp_frame row;
+} slp_frame_answer;
+
+typedef struct {
+	uint8_t refused;
+	slp_pre row;
+} slp_pre_answer;
+
+typedef struct {
+	uint8_t refused;
+	slp_post row;
+} slp_post_answer;
+
+typedef struct {
+	uint8_t refused;
+	slp_item row;
+} slp_item_answer;
+
+typedef struct {
+	uint8_t refused;
+	slp_fod_platform row;
+} slp_fod_platform_answer;
+
+typedef struct {
+	uint8_t refused;
+	slp_dreamland_whispy row;
+} slp_dreamland_whispy_answer;
+
+typedef struct {
+	uint8_t refused;
+	slp_stadium_transformation row;
+} slp_stadium_transformation_answer;
+
+/* Frame `index`: its id, start, end and players, and which items and stage rows it has.
+ *
+ *     slp_frame_answer a = slp_frame_row(game.frames, SLP_STORES(&stores), 0);
+ *     if (!a.refused) printf("frame %d: port %u has %.1f percent\n", a.row.id, a.row.ports[0].port, a.row.ports[0].leader.post.percent);
+ */
+slp_frame_answer slp_frame_row(slp_frames frames, SLP_STORE_PARAMETERS, size_t index);
+
+/* A player's Pre and Post of frame `index`. Slots are leader, then follower where there is one, of each port column in order.
+ *
+ *     slp_post_answer a = slp_post_row(game.frames, SLP_STORES(&stores), 1, 0);    // the second slot's Post of the first frame
+ */
+slp_pre_answer slp_pre_row(slp_frames frames, SLP_STORE_PARAMETERS, size_t slot, size_t index);
+slp_post_answer slp_post_row(slp_frames frames, SLP_STORE_PARAMETERS, size_t slot, size_t index);
+
+/* Row `index` of the items or of a stage family, counted over the whole game; a frame's row says which are its own.
+ *
+ *     for (size_t i = 0; i < frame.items.count; i++)
+ *         use(slp_item_row(game.frames, SLP_STORES(&stores), frame.items.first + i).row);
+ */
+slp_item_answer slp_item_row(slp_frames frames, SLP_STORE_PARAMETERS, size_t index);
+slp_fod_platform_answer slp_fod_platform_row(slp_frames frames, SLP_STORE_PARAMETERS, size_t index);
+slp_dreamland_whispy_answer slp_dreamland_whispy_row(slp_frames frames, SLP_STORE_PARAMETERS, size_t index);
+slp_stadium_transformation_answer slp_stadium_transformation_row(slp_frames frames, SLP_STORE_PARAMETERS, size_t index);
+
+#ifdef __cplusplus
+}
+#endif
+
+#endif
