@@ -1,0 +1,129 @@
+# The C side: the library, the tool, the tests. `make help` lists what can be asked for. All output is under target/.
+VERSION := 0.1.0
+PREFIX ?= /usr/local
+DESTDIR ?=
+SLP_LIB ?= target/staticlib/libslp.a
+CFLAGS ?= -O2 -g
+CXXFLAGS ?= -O2 -g
+OBJCOPY ?= objcopy
+# Empty: the tests run without valgrind.
+VALGRIND ?= valgrind -q --error-exitcode=1
+
+WARNINGS := -Wall -Wextra -pedantic -Werror
+C11 := -std=c11 $(WARNINGS) -Wshadow -Wconversion -Wstrict-prototypes -Wmissing-prototypes -D_DEFAULT_SOURCE -Iinclude
+CXX11 := -std=c++11 $(WARNINGS) -Iinclude
+
+TOOL := target/bin/slp
+TOOL_SOURCES := $(wildcard tools/*.c)
+TOOL_OBJECTS := $(TOOL_SOURCES:%.c=target/c/%.o)
+
+# The programs of tests/c; its other sources are shared by them.
+PROGRAMS := cases refusals limits fuzz rows threads vectors header header_cpp header_examples
+SHARED := check guard columns model_judge model_write model_read model_rows flat made damage
+SHARED_OBJECTS := $(SHARED:%=target/c/tests/c/%.o)
+EXAMPLES := walk_file write_game masks rows
+# Programs that must fail over a library with a fault.
+FAULTED := cases refusals fuzz rows
+TESTS := $(PROGRAMS:%=target/c/bin/%) $(EXAMPLES:%=target/c/examples/%) $(FAULTED:%=target/c/faults/%)
+
+.PHONY: all lib tests test examples install uninstall clean help always
+.DELETE_ON_ERROR:
+.SECONDARY:
+
+all: $(SLP_LIB) $(TOOL)
+
+target/staticlib/libslp.a:
+	rt staticlib slp
+
+lib:
+	rt staticlib slp
+
+$(TOOL): $(TOOL_OBJECTS) $(SLP_LIB)
+	@mkdir -p $(@D)
+	$(CC) $(CFLAGS) $(LDFLAGS) -o $@ $(TOOL_OBJECTS) $(SLP_LIB)
+
+target/c/tools/%.o: tools/%.c Makefile
+	@mkdir -p $(@D)
+	$(CC) $(C11) $(CFLAGS) -DTOOL_VERSION='"$(VERSION)"' -MMD -MP -c -o $@ $<
+
+target/c/%.o: %.c Makefile
+	@mkdir -p $(@D)
+	$(CC) $(C11) $(CFLAGS) -MMD -MP -c -o $@ $<
+
+target/c/%.o: %.cpp Makefile
+	@mkdir -p $(@D)
+	$(CXX) $(CXX11) $(CXXFLAGS) -MMD -MP -c -o $@ $<
+
+# The examples of the header are for every reader's flags: without the strictest ones.
+target/c/tests/c/header_examples.o: tests/c/header_examples.c Makefile
+	@mkdir -p $(@D)
+	$(CC) -std=c11 $(WARNINGS) -Iinclude $(CFLAGS) -MMD -MP -c -o $@ $<
+
+target/c/bin/header_examples: target/c/tests/c/header_examples.o $(SLP_LIB)
+	@mkdir -p $(@D)
+	$(CC) $(CFLAGS) $(LDFLAGS) -o $@ $^
+
+target/c/bin/header_cpp: target/c/tests/c/header_cpp.o $(SLP_LIB)
+	@mkdir -p $(@D)
+	$(CXX) $(CXXFLAGS) $(LDFLAGS) -o $@ $^
+
+target/c/bin/threads: LDLIBS += -pthread
+
+target/c/bin/%: target/c/tests/c/%.o $(SHARED_OBJECTS) $(SLP_LIB)
+	@mkdir -p $(@D)
+	$(CC) $(CFLAGS) $(LDFLAGS) -o $@ $^ $(LDLIBS)
+
+# The library with its calls under other names, and the faults in front of it.
+target/c/faults/slp.o: $(SLP_LIB) Makefile
+	@mkdir -p $(@D)
+	$(LD) -r --whole-archive $< -o $@.tmp
+	$(OBJCOPY) $(foreach call,walk step_at rollbacks write frame_row post_row,--redefine-sym slp_$(call)=real_slp_$(call)) $@.tmp $@
+	@rm -f $@.tmp
+
+target/c/faults/%: target/c/tests/c/%.o $(SHARED_OBJECTS) target/c/tests/c/faults.o target/c/faults/slp.o
+	$(CC) $(CFLAGS) $(LDFLAGS) -o $@ $^
+
+target/c/examples/%: target/c/examples/%.o $(SLP_LIB)
+	@mkdir -p $(@D)
+	$(CC) $(CFLAGS) $(LDFLAGS) -o $@ $^
+
+examples: $(EXAMPLES:%=target/c/examples/%)
+
+tests: $(TESTS) $(TOOL)
+
+test: tests
+	@VALGRIND='$(VALGRIND)' tests/c/run $(TOOL) $(SLP_LIB)
+
+# Made anew each time: another PREFIX may be asked for.
+target/slp.pc: slp.pc.in always
+	@mkdir -p $(@D)
+	sed -e 's|@PREFIX@|$(PREFIX)|' -e 's|@VERSION@|$(VERSION)|' slp.pc.in > $@
+
+install: all target/slp.pc
+	install -d $(DESTDIR)$(PREFIX)/bin $(DESTDIR)$(PREFIX)/include $(DESTDIR)$(PREFIX)/lib/pkgconfig
+	install -m 755 $(TOOL) $(DESTDIR)$(PREFIX)/bin/slp
+	install -m 644 include/slp.h $(DESTDIR)$(PREFIX)/include/slp.h
+	install -m 644 $(SLP_LIB) $(DESTDIR)$(PREFIX)/lib/libslp.a
+	install -m 644 target/slp.pc $(DESTDIR)$(PREFIX)/lib/pkgconfig/slp.pc
+
+uninstall:
+	rm -f $(DESTDIR)$(PREFIX)/bin/slp $(DESTDIR)$(PREFIX)/include/slp.h
+	rm -f $(DESTDIR)$(PREFIX)/lib/libslp.a $(DESTDIR)$(PREFIX)/lib/pkgconfig/slp.pc
+
+clean:
+	rm -rf target/c target/slp.pc $(TOOL)
+
+help:
+	@echo 'make            the library (by rt, where it is not there yet) and the tool $(TOOL)'
+	@echo 'make lib        the library again, from its proved sources'
+	@echo 'make test       the tests of the library, the header, the examples and the tool'
+	@echo 'make examples   the programs of examples/, under target/c/examples'
+	@echo 'make install    the tool, the library, slp.h and slp.pc, under PREFIX ($(PREFIX))'
+	@echo 'make uninstall  removes them again'
+	@echo 'make clean      removes what make built, but not the library'
+	@echo
+	@echo 'Variables: PREFIX, DESTDIR, CC, CXX, CFLAGS, CXXFLAGS, LDFLAGS,'
+	@echo '           SLP_LIB   another library than target/staticlib/libslp.a'
+	@echo '           VALGRIND  how to run it; empty: tests run without it'
+
+-include $(wildcard target/c/*/*.d target/c/*/*/*.d)

@@ -1,0 +1,38 @@
+/* Rows of a game by the names of their fields: two frames of a player at 2.0.0, who takes damage.
+ *
+ *     cc -std=c11 rows.c $(pkg-config --cflags --libs slp) -o rows && ./rows
+ */
+#include <slp.h>
+#include <stdio.h>
+#include <string.h>
+
+/* Columns of Pre and Post at 2.0.0, and two of those of Post. */
+enum { FRAMES = 2, PRE_COLUMNS = 16, POST_COLUMNS = 22, PERCENT = 5, STOCKS = 10 };
+
+static uint32_t bits(float value)
+{
+	uint32_t b;
+	memcpy(&b, &value, sizeof b);
+	return b;
+}
+
+int main(void)
+{
+	const uint32_t ids[FRAMES] = { 0, 1 };
+	static uint32_t pres[PRE_COLUMNS * FRAMES], posts[POST_COLUMNS * FRAMES];
+	for (int frame = 0; frame < FRAMES; frame++) {
+		posts[PERCENT * FRAMES + frame] = bits(12.5f * (float)frame);
+		posts[STOCKS * FRAMES + frame] = 4;
+	}
+	slp_frames frames = { .version = { 2, 0, 0 }, .counts = { .frames = FRAMES }, .ports = { { .port = 2 } }, .port_count = 1 };
+	slp_stores stores = { .ids = { ids, FRAMES }, .pres = { pres, PRE_COLUMNS * FRAMES }, .posts = { posts, POST_COLUMNS * FRAMES } };
+	for (size_t i = 0; i <= FRAMES; i++) {
+		slp_frame_answer a = slp_frame_row(frames, SLP_STORES(&stores), i);
+		const slp_post *post = &a.row.ports[0].leader.post;
+		if (a.refused)
+			printf("row %zu: refused %u\n", i, a.refused);
+		else
+			printf("frame %d: port %u, %.1f percent, %u stocks\n", (int)a.row.id, a.row.ports[0].port, (double)post->percent, post->stocks);
+	}
+	return 0;
+}

@@ -1,0 +1,10 @@
+#!/bin/sh
+# Runs the examples, whose programs are in the first directory; their output is compared with examples.expected.
+set -eu
+bin=$1
+"$bin/masks"
+"$bin/rows"
+"$bin/write_game" "$bin/game.slp"
+"$bin/walk_file" "$bin/game.slp"
+head -c 900 "$bin/game.slp" >"$bin/cut.slp"
+"$bin/walk_file" "$bin/cut.slp"

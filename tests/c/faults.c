@@ -1,0 +1,164 @@
+/* A library that does one thing wrong, to see that the tests notice: it stands between the tests and the real calls, whose names begin with
+ * real_. $SLP_FAULT names the fault; faults.sh has them all. */
+#include <slp.h>
+#include <stdlib.h>
+#include <string.h>
+
+slp_step real_slp_step_at(const uint8_t *file, size_t file_len, size_t place);
+slp_walked real_slp_walk(const uint8_t *file, size_t file_len);
+uint8_t real_slp_rollbacks(const uint32_t *ids, size_t ids_len, uint8_t keep, uint8_t *mask, size_t mask_len, uint8_t *scratch,
+                           size_t scratch_len);
+slp_written real_slp_write(uint8_t *out, size_t out_len, slp_game game, SLP_STORE_PARAMETERS, const uint8_t *template_block,
+                           size_t template_len, const uint8_t *codes, size_t codes_len, const uint8_t *metadata, size_t metadata_len);
+slp_frame_answer real_slp_frame_row(slp_frames frames, SLP_STORE_PARAMETERS, size_t index);
+slp_post_answer real_slp_post_row(slp_frames frames, SLP_STORE_PARAMETERS, size_t slot, size_t index);
+
+/* The parameters of the stores, handed on. */
+#define STORES \
+	ids, ids_len, starts, starts_len, pres, pres_len, posts, posts_len, ends, ends_len, items, items_len, fods, fods_len, whispys, \
+	whispys_len, stadiums, stadiums_len, item_offsets, item_offsets_len, fod_offsets, fod_offsets_len, whispy_offsets, \
+	whispy_offsets_len, stadium_offsets, stadium_offsets_len, presence, presence_len
+
+static int faulty(const char *name)
+{
+	const char *fault = getenv("SLP_FAULT");
+	return fault && strcmp(fault, name) == 0;
+}
+
+/* A store that was lent to be read. */
+static void spoil(const void *p)
+{
+	if (p)
+		*(uint8_t *)(uintptr_t)p ^= 1;
+}
+
+slp_walked slp_walk(const uint8_t *file, size_t file_len)
+{
+	slp_walked w = real_slp_walk(file, file_len);
+	if (faulty("walk-events"))
+		w.events += w.events > 5;
+	if (faulty("walk-stray"))
+		w.stray = 0;
+	if (faulty("walk-whole"))
+		w.whole |= !w.refused && w.stray == 0;
+	if (faulty("walk-place"))
+		w.place -= w.events > 5;
+	if (faulty("walk-offset"))
+		w.offset = 0;
+	if (faulty("walk-number"))
+		w.refused = w.refused == 17 ? 16 : w.refused;
+	if (faulty("walk-input") && file_len > 20)
+		spoil(file + 20);
+	if (faulty("walk-outside") && file_len)
+		spoil(file + file_len);
+	return w;
+}
+
+slp_step slp_step_at(const uint8_t *file, size_t file_len, size_t place)
+{
+	slp_step s = real_slp_step_at(file, file_len, place);
+	if (faulty("step-next") && s.at > 800)
+		s.next++;
+	if (faulty("step-kind") && s.kind == SLP_STEP_ENDS)
+		s.kind = SLP_STEP_CUT;
+	if (faulty("step-far") && place == SIZE_MAX)
+		s.offset = 0;
+	if (faulty("step-before") && file_len)
+		spoil(file - 1);
+	return s;
+}
+
+uint8_t slp_rollbacks(const uint32_t *ids, size_t ids_len, uint8_t keep, uint8_t *mask, size_t mask_len, uint8_t *scratch, size_t scratch_len)
+{
+	if (faulty("mask-keep"))
+		keep = keep == 1;
+	uint8_t n = real_slp_rollbacks(ids, ids_len, keep, mask, mask_len, scratch, scratch_len);
+	if (faulty("mask-refused") && n && mask_len)
+		mask[0] ^= 1;
+	if (faulty("scratch-refused") && n == 13 && scratch_len)
+		scratch[0] ^= 1;
+	if (faulty("mask-beyond") && n == 0 && mask_len > ids_len)
+		mask[ids_len] ^= 1;
+	if (faulty("mask-outside") && mask_len)
+		mask[mask_len] ^= 1;
+	if (faulty("mask-input") && ids_len)
+		spoil(ids);
+	if (faulty("mask-order"))
+		n = n == 13 && scratch_len == 0 ? 12 : n;
+	return n;
+}
+
+static slp_written spoiled(slp_written w, uint8_t *out, size_t out_len, const uint8_t *metadata, size_t metadata_len)
+{
+	if (faulty("write-refused") && w.refused && out_len)
+		out[out_len - 1] ^= 1;
+	if (faulty("write-beyond") && !w.refused && w.len < out_len)
+		out[w.len] ^= 1;
+	if (faulty("write-outside") && out_len)
+		out[out_len] ^= 1;
+	if (faulty("write-before") && out_len)
+		out[-1] ^= 1;
+	if (faulty("write-last") && w.len)
+		out[w.len - 1] ^= 1;
+	if (faulty("write-late") && w.len > 5000)
+		out[4000] ^= 1;
+	if (faulty("write-len"))
+		w.len += !w.refused && metadata_len == 65535;
+	if (faulty("write-number"))
+		w.refused = w.refused == 11 ? 10 : w.refused;
+	if (faulty("write-input") && metadata_len)
+		spoil(metadata + metadata_len - 1);
+	return w;
+}
+
+/* A game that the fault takes for another. */
+static slp_game misread(slp_game g)
+{
+	if (faulty("write-ports") && g.frames.port_count > 1000000)
+		g.frames.port_count = 4;
+	if (faulty("write-version") && g.frames.version.minor == 18)
+		g.frames.version.patch = 0;
+	if (faulty("write-absent"))
+		g.frames.ports[0].leader_presence = 0;
+	return g;
+}
+
+slp_written slp_write(uint8_t *out, size_t out_len, slp_game game, SLP_STORE_PARAMETERS, const uint8_t *template_block, size_t template_len,
+                      const uint8_t *codes, size_t codes_len, const uint8_t *metadata, size_t metadata_len)
+{
+	slp_written w = real_slp_write(out, out_len, misread(game), STORES, template_block, template_len, codes, codes_len, metadata,
+	                               metadata_len);
+	return spoiled(w, out, out_len, metadata, metadata_len);
+}
+
+slp_frame_answer slp_frame_row(slp_frames frames, SLP_STORE_PARAMETERS, size_t index)
+{
+	slp_frame_answer a = real_slp_frame_row(frames, STORES, index);
+	if (faulty("frame-follower") && a.row.port_count)
+		a.row.ports[0].follower.post.stocks |= !a.row.ports[0].follower_given;
+	if (faulty("frame-ports") && a.row.port_count < 4)
+		a.row.ports[3].leader.pre.version.major = 3;
+	if (faulty("frame-range"))
+		a.row.stadium_transformations.first++;
+	if (faulty("frame-refused"))
+		a.row.id |= a.refused == 13;
+	if (faulty("frame-end"))
+		a.row.end.latest_finalized_frame ^= index > 5;
+	return a;
+}
+
+slp_post_answer slp_post_row(slp_frames frames, SLP_STORE_PARAMETERS, size_t slot, size_t index)
+{
+	slp_post_answer a = real_slp_post_row(frames, STORES, slot, index);
+	if (faulty("post-bits"))
+		a.row.bits[31] ^= !a.refused && frames.version.minor == 15;
+	if (faulty("post-float"))
+		a.row.hitlag = -a.row.hitlag;
+	if (faulty("post-slot") && slot > 6)
+		a.refused = 0;
+	if (faulty("post-input") && posts_len)
+		spoil(posts);
+	if (faulty("post-outside") && presence_len)
+		spoil(presence + presence_len);
+	return a;
+}

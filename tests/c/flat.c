@@ -1,0 +1,270 @@
+/* What the row calls answer, as lists of numbers. */
+#include "flat.h"
+
+#include <string.h>
+
+#include "check.h"
+
+static void field(flat *f, uint32_t value)
+{
+	f->fields[f->n++] = value;
+}
+
+static void float_field(flat *f, float value)
+{
+	f->is_float[f->n] = 1;
+	memcpy(&f->fields[f->n++], &value, sizeof value);
+}
+
+static void position(flat *f, slp_position p)
+{
+	float_field(f, p.x);
+	float_field(f, p.y);
+}
+
+/* A number that is no cell. */
+static void plain(flat *f, uint64_t value)
+{
+	field(f, (uint32_t)value);
+	f->odd |= value > UINT32_MAX;
+	f->cells[f->n_cells++] = (uint32_t)value;
+}
+
+/* The raw cells of a record with so many columns, after its fields; the rest of them is zero. */
+static void record(flat *f, slp_version is, slp_version should, const uint32_t bits[32], size_t columns)
+{
+	f->odd |= memcmp(&is, &should, sizeof is) != 0;
+	for (size_t i = 0; i < 32; i++)
+		if (i < columns)
+			f->cells[f->n_cells++] = bits[i];
+		else
+			f->odd |= bits[i] != 0;
+	f->odd |= f->n != f->n_cells;
+}
+
+static void pre(flat *f, const slp_pre *p, slp_version v)
+{
+	field(f, p->random_seed);
+	field(f, p->state);
+	position(f, p->position);
+	float_field(f, p->direction);
+	position(f, p->joystick);
+	position(f, p->cstick);
+	float_field(f, p->triggers);
+	field(f, p->buttons);
+	field(f, p->buttons_physical);
+	float_field(f, p->triggers_physical.l);
+	float_field(f, p->triggers_physical.r);
+	field(f, (uint8_t)p->raw_analog_x);
+	float_field(f, p->percent);
+	field(f, (uint8_t)p->raw_analog_y);
+	field(f, (uint8_t)p->raw_analog_cstick_x);
+	field(f, (uint8_t)p->raw_analog_cstick_y);
+	record(f, p->version, v, p->bits, 19);
+}
+
+static void post_later(flat *f, const slp_post *p)
+{
+	float_field(f, p->state_age);
+	for (size_t i = 0; i < 5; i++)
+		field(f, p->state_flags[i]);
+	float_field(f, p->misc_as);
+	field(f, p->airborne);
+	field(f, p->ground);
+	field(f, p->jumps);
+	field(f, p->l_cancel);
+	field(f, p->hurtbox_state);
+	float_field(f, p->velocities.self_x_air);
+	float_field(f, p->velocities.self_y);
+	float_field(f, p->velocities.knockback_x);
+	float_field(f, p->velocities.knockback_y);
+	float_field(f, p->velocities.self_x_ground);
+	float_field(f, p->hitlag);
+	field(f, p->animation_index);
+	field(f, p->last_hit_by_instance);
+	field(f, p->instance_id);
+}
+
+static void post(flat *f, const slp_post *p, slp_version v)
+{
+	field(f, p->character);
+	field(f, p->state);
+	position(f, p->position);
+	float_field(f, p->direction);
+	float_field(f, p->percent);
+	float_field(f, p->shield);
+	field(f, p->last_attack_landed);
+	field(f, p->combo_count);
+	field(f, p->last_hit_by);
+	field(f, p->stocks);
+	post_later(f, p);
+	record(f, p->version, v, p->bits, 32);
+}
+
+static void item(flat *f, const slp_item *p, slp_version v)
+{
+	field(f, p->type_id);
+	field(f, p->state);
+	float_field(f, p->direction);
+	float_field(f, p->velocity.x);
+	float_field(f, p->velocity.y);
+	position(f, p->position);
+	field(f, p->damage);
+	float_field(f, p->timer);
+	field(f, p->id);
+	for (size_t i = 0; i < 4; i++)
+		field(f, p->misc[i]);
+	field(f, (uint8_t)p->owner);
+	field(f, p->instance_id);
+	record(f, p->version, v, p->bits, 16);
+}
+
+/* ---- a frame */
+
+static void data(flat *f, const slp_data *d, slp_version v)
+{
+	pre(f, &d->pre, v);
+	post(f, &d->post, v);
+}
+
+/* A player who is not there: nothing of that is in the lists. */
+static void no_data(flat *f, const slp_data *d)
+{
+	flat none = { 0 };
+	data(&none, d, (slp_version){ 0, 0, 0 });
+	f->odd |= !flat_is_zero(&none);
+}
+
+static void port(flat *f, const slp_port_data *p, slp_version v)
+{
+	plain(f, p->port);
+	plain(f, p->follower_given);
+	data(f, &p->leader, v);
+	if (p->follower_given)
+		data(f, &p->follower, v);
+	else
+		no_data(f, &p->follower);
+}
+
+static void no_port(flat *f, const slp_port_data *p)
+{
+	f->odd |= p->port || p->follower_given;
+	no_data(f, &p->leader);
+	no_data(f, &p->follower);
+}
+
+static void range(flat *f, slp_range r)
+{
+	plain(f, r.first);
+	plain(f, r.count);
+}
+
+static void frame(flat *f, const slp_frame *r, slp_version v)
+{
+	plain(f, (uint32_t)r->id);
+	plain(f, r->port_count);
+	for (size_t i = 0; i < 4; i++)
+		if (i < r->port_count)
+			port(f, &r->ports[i], v);
+		else
+			no_port(f, &r->ports[i]);
+	field(f, r->start.random_seed);
+	field(f, r->start.scene_frame_counter);
+	record(f, r->start.version, v, r->start.bits, 2);
+	field(f, (uint32_t)r->end.latest_finalized_frame);
+	record(f, r->end.version, v, r->end.bits, 1);
+	range(f, r->items);
+	range(f, r->fod_platforms);
+	range(f, r->dreamland_whispys);
+	range(f, r->stadium_transformations);
+}
+
+/* ---- the calls */
+
+/* The version that a row should carry: none where it is refused. */
+static slp_version carried(flat *f, const input *in, unsigned refused)
+{
+	f->refused = refused;
+	return refused ? (slp_version){ 0, 0, 0 } : in->game.frames.version;
+}
+
+static void stage_row(flat *f, const input *in, row_kind kind, size_t index)
+{
+	const slp_frames *g = &in->game.frames;
+	const slp_stores *s = &in->stores;
+	if (kind == FOD_ROW) {
+		slp_fod_platform_answer a = slp_fod_platform_row(*g, SLP_STORES(s), index);
+		field(f, a.row.platform);
+		float_field(f, a.row.height);
+		record(f, a.row.version, carried(f, in, a.refused), a.row.bits, 2);
+	} else if (kind == WHISPY_ROW) {
+		slp_dreamland_whispy_answer a = slp_dreamland_whispy_row(*g, SLP_STORES(s), index);
+		field(f, a.row.direction);
+		record(f, a.row.version, carried(f, in, a.refused), a.row.bits, 1);
+	} else {
+		slp_stadium_transformation_answer a = slp_stadium_transformation_row(*g, SLP_STORES(s), index);
+		field(f, a.row.event);
+		field(f, a.row.type_id);
+		record(f, a.row.version, carried(f, in, a.refused), a.row.bits, 2);
+	}
+}
+
+static void any_row(flat *f, const input *in, row_kind kind, size_t slot, size_t index)
+{
+	const slp_frames *g = &in->game.frames;
+	const slp_stores *s = &in->stores;
+	if (kind == FRAME_ROW) {
+		slp_frame_answer a = slp_frame_row(*g, SLP_STORES(s), index);
+		frame(f, &a.row, carried(f, in, a.refused));
+	} else if (kind == PRE_ROW) {
+		slp_pre_answer a = slp_pre_row(*g, SLP_STORES(s), slot, index);
+		pre(f, &a.row, carried(f, in, a.refused));
+	} else if (kind == POST_ROW) {
+		slp_post_answer a = slp_post_row(*g, SLP_STORES(s), slot, index);
+		post(f, &a.row, carried(f, in, a.refused));
+	} else if (kind == ITEM_ROW) {
+		slp_item_answer a = slp_item_row(*g, SLP_STORES(s), index);
+		item(f, &a.row, carried(f, in, a.refused));
+	} else {
+		stage_row(f, in, kind, index);
+	}
+}
+
+flat guarded_row(const input *in, row_kind kind, size_t slot, size_t index)
+{
+	input lent = *in;
+	loan loans[LOANS];
+	flat f;
+	memset(&f, 0, sizeof f);
+	lend_input(&lent, loans);
+	any_row(&f, &lent, kind, slot, index);
+	take_back(loans);
+	return f;
+}
+
+/* ---- comparing */
+
+static int is_nan(uint32_t bits)
+{
+	return (bits & 0x7fffffff) > 0x7f800000;
+}
+
+int flat_is(const flat *f, const uint32_t *should, size_t n)
+{
+	if (f->refused || f->odd || f->n != n || f->n_cells != n)
+		return 0;
+	for (size_t i = 0; i < n; i++) {
+		int any_nan = f->is_float[i] && is_nan(should[i]) && is_nan(f->fields[i]);
+		if (f->cells[i] != should[i] || (f->fields[i] != should[i] && !any_nan))
+			return 0;
+	}
+	return 1;
+}
+
+int flat_is_zero(const flat *f)
+{
+	int any = f->odd;
+	for (size_t i = 0; i < f->n; i++)
+		any |= f->fields[i] != 0 || f->cells[i] != 0;
+	return !any;
+}

@@ -1,0 +1,43 @@
+/* Rows as lists of numbers, to be compared: what a call answers, and what it should answer. */
+#ifndef FLAT_H
+#define FLAT_H
+
+#include "guard.h"
+
+/* The seven calls. */
+typedef enum { FRAME_ROW, PRE_ROW, POST_ROW, ITEM_ROW, FOD_ROW, WHISPY_ROW, STADIUM_ROW, ROW_KINDS } row_kind;
+
+/* A frame's row has two numbers, a port with two players 104 for each of four, 3 for start and end, 8 for its ranges. */
+enum { MOST_VALUES = 2 + 4 * 104 + 3 + 8 };
+
+/* An answer. A row's values are its fields in their order, each in 32 bits, and beside them its raw cells, which should be the same numbers; numbers
+ * of a frame that are no cells stand in both lists. */
+typedef struct {
+	unsigned refused;
+	uint32_t fields[MOST_VALUES], cells[MOST_VALUES];
+	uint8_t is_float[MOST_VALUES];
+	size_t n, n_cells;
+	int odd;   /* a version is wrong, or something is not zero that should be */
+} flat;
+
+/* Numbers that a row should have. */
+typedef struct {
+	uint32_t values[MOST_VALUES];
+	size_t n;
+} values;
+
+/* A call over lent copies of the stores. */
+flat guarded_row(const input *in, row_kind kind, size_t slot, size_t index);
+/* Whether a row has these values: in a float's field a NaN may be any NaN. */
+int flat_is(const flat *f, const uint32_t *should, size_t n);
+/* Whether a refusal has no row. */
+int flat_is_zero(const flat *f);
+
+/* What a row should have, told by the stores. */
+values model_row(const input *in, row_kind kind, size_t slot, size_t index);
+/* Refusals 1 to 7 and 13 of a row, or 0. */
+unsigned model_row_refusal(const input *in, row_kind kind, size_t slot, size_t index);
+/* How many rows a call can be asked for. */
+size_t row_count(const slp_frames *f, row_kind kind);
+
+#endif

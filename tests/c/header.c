@@ -1,0 +1,65 @@
+/* slp.h alone, before any other header: C11, and the layout that the library has. */
+#include <slp.h>
+#include <slp.h>
+
+#include "check.h"
+
+_Static_assert(sizeof(size_t) == 8, "64 bits");
+
+_Static_assert(sizeof(slp_step) == 48 && offsetof(slp_step, offset) == 8 && offsetof(slp_step, next) == 40, "slp_step");
+_Static_assert(sizeof(slp_walked) == 40 && offsetof(slp_walked, offset) == 8 && offsetof(slp_walked, place) == 32, "slp_walked");
+_Static_assert(sizeof(slp_written) == 16 && offsetof(slp_written, len) == 8, "slp_written");
+
+_Static_assert(sizeof(slp_version) == 3, "slp_version");
+_Static_assert(sizeof(slp_counts) == 40, "slp_counts");
+_Static_assert(sizeof(slp_port_column) == 24 && offsetof(slp_port_column, leader_presence) == 8, "slp_port_column");
+_Static_assert(sizeof(slp_frames) == 152 && offsetof(slp_frames, counts) == 8 && offsetof(slp_frames, ports) == 48 &&
+               offsetof(slp_frames, port_count) == 144, "slp_frames");
+_Static_assert(sizeof(slp_text) == 64 && offsetof(slp_text, len) == 56, "slp_text");
+_Static_assert(sizeof(slp_ucf) == 12 && sizeof(slp_netplay) == 208 && sizeof(slp_seat) == 320, "slp_seat");
+_Static_assert(offsetof(slp_seat, name_tag) == 48 && offsetof(slp_seat, netplay) == 112, "slp_seat");
+_Static_assert(sizeof(slp_match) == 80 && sizeof(slp_start) == 1408 && offsetof(slp_start, seats) == 32, "slp_start");
+_Static_assert(sizeof(slp_end) == 11, "slp_end");
+_Static_assert(sizeof(slp_game) == 1584 && offsetof(slp_game, start) == 152 && offsetof(slp_game, end) == 1560 &&
+               offsetof(slp_game, double_end) == 1571 && offsetof(slp_game, actual_size) == 1576, "slp_game");
+
+_Static_assert(sizeof(slp_pre) == 200 && offsetof(slp_pre, bits) == 4 && offsetof(slp_pre, random_seed) == 132, "slp_pre");
+_Static_assert(sizeof(slp_post) == 216 && offsetof(slp_post, state_flags) == 164 && offsetof(slp_post, instance_id) == 214, "slp_post");
+_Static_assert(sizeof(slp_item) == 176 && sizeof(slp_frame_start) == 140 && sizeof(slp_frame_end) == 136, "records");
+_Static_assert(sizeof(slp_fod_platform) == 140 && sizeof(slp_dreamland_whispy) == 136 && sizeof(slp_stadium_transformation) == 136, "records");
+_Static_assert(sizeof(slp_port_data) == 836 && sizeof(slp_frame) == 3704 && offsetof(slp_frame, start) == 3360, "slp_frame");
+_Static_assert(sizeof(slp_frame_answer) == 3712 && sizeof(slp_pre_answer) == 204 && sizeof(slp_item_answer) == 180, "answers");
+
+_Static_assert(SLP_OK == 0 && SLP_SHORT_OUTPUT == 12 && SLP_BAD_PLACE == 17, "refusals");
+_Static_assert(SLP_LAST_FRAME_ID - SLP_FIRST_FRAME_ID + 1 == SLP_MAX_FRAMES, "frame ids");
+_Static_assert(SLP_EVENT_MESSAGE_SPLITTER == 16 && SLP_EVENT_PAYLOADS == 53 && SLP_EVENT_STADIUM_TRANSFORMATION == 65, "events");
+
+/* SLP_STORES in the order of slp_write: stores of different lengths, each of which is refused anywhere else. */
+static void stores_in_order(void)
+{
+	static const uint32_t cells[32];
+	static const uint8_t block[760], presence[1] = { 1 };
+	slp_game g = { .frames = { .version = { 3, 18, 0 }, .counts = { .frames = 1 }, .port_count = 1 } };
+	g.start = (slp_start){ .is_pal = { 1, 0 }, .is_frozen_ps = { 1, 0 }, .scene = { 1, 0, 0 }, .language = { 1, 0 } };
+	g.start.match_info.given = 1;
+	g.frames.ports[0].leader_presence = 1;
+	slp_stores s = { .ids = { cells, 1 }, .starts = { cells, 2 }, .pres = { cells, 19 }, .posts = { cells, 32 }, .ends = { cells, 1 } };
+	s.item_offsets = s.fod_offsets = s.whispy_offsets = s.stadium_offsets = (slp_cells){ cells, 2 };
+	s.presence = (slp_bytes){ presence, 1 };
+	uint8_t out[1000];
+	slp_written a = slp_write_game(out, sizeof out, &g, &s, (slp_bytes){ block, 760 }, (slp_bytes){ 0 }, (slp_bytes){ 0 });
+	slp_written b = slp_write(out, sizeof out, g, SLP_STORES(&s), block, 760, NULL, 0, NULL, 0);
+	CHECK_EQ(a.refused, 0);
+	CHECK_EQ(a.len, 990 - 7);
+	CHECK_EQ(b.refused, a.refused);
+	CHECK_EQ(b.len, a.len);
+	CHECK_EQ(slp_frame_row(g.frames, SLP_STORES(&s), 0).refused, 0);
+	CHECK_EQ(slp_post_row(g.frames, SLP_STORES(&s), 1, 0).refused, 13);
+}
+
+int main(int argc, char **argv)
+{
+	begin("header", argc, argv);
+	test("stores in order", stores_in_order);
+	return finish();
+}

@@ -1,0 +1,95 @@
+/* The examples in the comments of slp.h, word for word: header_examples.sh sees to that. Here they are compiled and run. */
+#include <slp.h>
+#include <stdio.h>
+
+/* ---- reading */
+
+static void step_through(const uint8_t *file, size_t len)
+{
+	size_t place = 16 + file[16];
+	slp_step s;
+	while ((s = slp_step_at(file, len, place)).kind == SLP_STEP_EVENT) {
+		printf("%02x at %zu, %zu bytes\n", s.code, s.at, s.len);
+		place = s.next;
+	}
+}
+
+static void walk_through(const uint8_t *file, size_t len)
+{
+	slp_walked w = slp_walk(file, len);
+	if (w.refused) printf("refused %u at %zu\n", w.refused, w.offset);
+	else printf("%zu events, %zu stray bytes, %s\n", w.events, w.stray, w.whole ? "whole" : "cut");
+}
+
+/* ---- masks */
+
+static void mask_frames(void)
+{
+	uint32_t ids[4] = { (uint32_t)-123, (uint32_t)-122, (uint32_t)-122, (uint32_t)-121 };
+	uint8_t mask[4], scratch[3];
+	slp_rollbacks(ids, 4, SLP_EXCEPT_FIRST, mask, 4, scratch, 3);    // mask is 0 0 1 0
+	printf("mask %u %u %u %u\n", mask[0], mask[1], mask[2], mask[3]);
+}
+
+/* ---- writing */
+
+static void write_and_read(void)
+{
+	slp_game game = { .frames = { .version = { 0, 1, 0 } } };    // no frames, no end
+	slp_stores stores = { 0 };
+	uint8_t block[320] = { 0 }, out[351];
+	slp_bytes none = { NULL, 0 }, start = { block, sizeof block };
+	slp_written w = slp_write_game(out, sizeof out, &game, &stores, start, none, none);    // w.len is 351
+	printf("wrote %zu\n", w.len);
+	step_through(out, w.len);
+	walk_through(out, w.len);
+	walk_through(out, 349);
+	walk_through(out, 28);
+}
+
+/* ---- rows */
+
+static void show_frame(slp_game game, slp_stores stores)
+{
+	slp_frame_answer a = slp_frame_row(game.frames, SLP_STORES(&stores), 0);
+	if (!a.refused) printf("frame %d: port %u has %.1f percent\n", a.row.id, a.row.ports[0].port, a.row.ports[0].leader.post.percent);
+}
+
+static void show_post(slp_game game, slp_stores stores)
+{
+	slp_post_answer a = slp_post_row(game.frames, SLP_STORES(&stores), 1, 0);    // the second slot's Post of the first frame
+	printf("second slot: refused %u, %u stocks\n", a.refused, a.row.stocks);
+}
+
+static void use(slp_item item)
+{
+	printf("item %u\n", item.id);
+}
+
+static void show_items(slp_game game, slp_stores stores, slp_frame frame)
+{
+	for (size_t i = 0; i < frame.items.count; i++)
+		use(slp_item_row(game.frames, SLP_STORES(&stores), frame.items.first + i).row);
+}
+
+/* A frame at 3.0.0 with two players, whose stocks are 1 and 2, and two items, whose ids are 7 and 8. */
+static void show_rows(void)
+{
+	static const uint32_t ids[1], starts[1], pres[2 * 16], offsets[2] = { 0, 2 };
+	static const uint32_t posts[2 * 23] = { [5] = 0x42280000, [10] = 1, [23 + 10] = 2 }, items[10 * 2] = { [18] = 7, [19] = 8 };
+	slp_game game = { .frames = { .version = { 3, 0, 0 }, .counts = { .frames = 1, .items = 2 }, .ports = { { .port = 3 }, { .port = 1 } },
+	                              .port_count = 2 } };
+	slp_stores stores = { .ids = { ids, 1 }, .starts = { starts, 1 }, .pres = { pres, 2 * 16 }, .posts = { posts, 2 * 23 },
+	                      .items = { items, 10 * 2 }, .item_offsets = { offsets, 2 } };
+	show_frame(game, stores);
+	show_post(game, stores);
+	show_items(game, stores, slp_frame_row(game.frames, SLP_STORES(&stores), 0).row);
+}
+
+int main(void)
+{
+	mask_frames();
+	write_and_read();
+	show_rows();
+	return 0;
+}

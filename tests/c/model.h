@@ -1,0 +1,33 @@
+/* A second writing of the rules, plain and slow: what every call should answer. It follows the text of the format, not the library. */
+#ifndef MODEL_H
+#define MODEL_H
+
+#include "guard.h"
+
+typedef struct {
+	uint8_t *bytes;
+	size_t len, room;
+	size_t *ends;        /* where each event after the payload table ends */
+	size_t events, ends_room;
+	size_t data_end;     /* where event data ends */
+} model_file;
+
+/* How many slots a game has; of more than four port columns, which are refused, the first four count. */
+size_t slots_of(const slp_frames *f);
+/* Refusals 1 to 11 of a game, or 0. */
+unsigned model_refusal(const input *in);
+/* The file of a game that is not refused. */
+model_file model_write(const input *in);
+void model_free(model_file *f);
+
+slp_step model_step(const uint8_t *file, size_t len, size_t place);
+slp_walked model_walk(const uint8_t *file, size_t len);
+
+/* The mask's answer; on 0 also the mask and its scratch of *needed bytes. Quadratic. */
+unsigned model_rollbacks(const uint32_t *ids, size_t n, uint8_t keep, size_t mask_len, size_t scratch_len, uint8_t *mask,
+                         uint8_t *scratch, size_t *needed);
+
+int same_step(slp_step a, slp_step b);
+int same_walked(slp_walked a, slp_walked b);
+
+#endif

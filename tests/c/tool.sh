@@ -1,0 +1,139 @@
+#!/bin/sh
+# Runs the tool and prints what it did: the command, its output, its errors after '!', its exit status after '='. Compared with tool.expected.
+#   tool.sh SLP DIRECTORY STORED     DIRECTORY is made anew; STORED is a stored replay of case 1
+# $VALGRIND, where it is set, runs the commands that read and write most.
+set -u
+export LC_ALL=C
+slp=$(realpath "$1")
+stored=$(realpath "$3")
+rm -rf "$2"
+mkdir -p "$2"
+cd "$2" || exit 2
+
+# What was printed to the files out and err, and the exit status.
+show() {
+	cat out
+	sed 's/^/! /' err
+	echo "= $1"
+}
+
+# With standard output to a file: to FILE ARGUMENTS..
+to() {
+	output=$1
+	shift
+	echo "\$ slp $* > $output"
+	: >out
+	"$slp" "$@" >"$output" 2>err </dev/null
+	show $?
+}
+
+run() {
+	echo "\$ slp${*:+ $*}"
+	"$slp" "$@" >out 2>err </dev/null
+	show $?
+}
+
+# The same, under valgrind.
+guarded() {
+	echo "\$ slp${*:+ $*}"
+	${VALGRIND:-} "$slp" "$@" >out 2>err </dev/null
+	show $?
+}
+
+# With a file as standard input.
+from() {
+	input=$1
+	shift
+	echo "\$ slp $* < $(basename "$input")"
+	"$slp" "$@" >out 2>err <"$input"
+	show $?
+}
+
+# The bytes of game.slp with others written over them from an offset on: patched NAME OFFSET BYTES, as printf takes them.
+patched() {
+	cp game.slp "$1"
+	printf "$3" | dd of="$1" bs=1 seek="$2" conv=notrunc 2>/dev/null
+}
+
+# ---- usage
+run
+run --help
+"$slp" --help >long 2>&1
+for h in help -h; do "$slp" $h 2>&1 | cmp - long && echo "$h: the same"; done
+run --version
+run version
+run --frob
+run walk --frob game.slp
+run -x
+run frob
+run walk
+run events
+run events a b
+run demo
+run demo a b
+run --progress=often walk game.slp
+
+# ---- demo
+guarded demo game.slp
+run demo game.slp
+run demo missing/game.slp
+to again.slp demo -
+cmp game.slp again.slp && echo "again.slp: the same"
+to /dev/full demo -
+
+# ---- walk: whole, cut and damaged
+guarded walk game.slp
+from game.slp walk -
+from "$stored" walk -
+for n in 0 14 15 16 17 46 47 48 807 808 809 10000 22218 22219 22220 22296; do
+	head -c $n game.slp >cut.slp
+	echo "cut at $n"
+	run walk cut.slp
+done
+head -c 28 "$stored" >cut.slp
+run walk cut.slp
+head -c 349 "$stored" >cut.slp
+guarded walk cut.slp
+: >empty.slp
+run walk empty.slp
+run walk missing.slp
+run walk .
+mkdir directory
+run walk directory
+patched signature.slp 0 '\000'
+patched table.slp 16 '\040'
+patched twice.slp 20 '\066'
+patched unknown.slp 808 '\231'
+patched overrun.slp 13 '\126\273'
+{ cat game.slp; echo more; } >longer.slp
+for f in signature table twice unknown overrun longer; do run walk $f.slp; done
+guarded walk game.slp cut.slp missing.slp directory empty.slp unknown.slp longer.slp
+run walk game.slp longer.slp
+from cut.slp walk game.slp -
+cp -- game.slp -odd.slp
+run walk -- -odd.slp
+run walk -odd.slp
+to /dev/full walk game.slp
+to /dev/full --help
+
+# ---- events
+guarded events game.slp
+from game.slp events -
+cut_at=5000
+head -c $cut_at game.slp >cut.slp
+run events cut.slp
+run events unknown.slp
+run events overrun.slp
+run events signature.slp
+run events table.slp
+run events empty.slp
+run events missing.slp
+run events directory
+
+# ---- progress
+run --progress=never walk game.slp
+run --progress=auto walk game.slp
+echo '$ slp --progress=always walk game.slp'
+"$slp" --progress=always walk game.slp 2>&1 >out | cat -v
+echo
+cat out

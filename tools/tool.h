@@ -1,0 +1,56 @@
+/* What the parts of the tool slp share. */
+#ifndef TOOL_H
+#define TOOL_H
+
+#include <slp.h>
+
+/* Exit statuses. */
+enum { WELL = 0, FAILED = 1, WRONG_USAGE = 2 };
+
+/* ---- words.c */
+
+/* Why a call was refused, in words. */
+const char *refusal_words(unsigned number);
+/* An event's name, or NULL. */
+const char *event_name(uint8_t code);
+/* What to call a file in messages: - is standard input or output. */
+const char *input_name(const char *path);
+/* "slp: NAME: REASON" on standard error, after all that was printed before. */
+void complain(const char *name, const char *format, ...) __attribute__((format(printf, 2, 3)));
+/* A reader's refusal. */
+void complain_refused(const char *name, unsigned number, size_t offset);
+/* A replay that is cut at `place`, with this many of its event data's bytes. */
+void complain_cut(const char *name, const uint8_t *file, size_t len);
+/* The declared length of event data. */
+size_t declared_length(const uint8_t *file);
+
+/* ---- load.c */
+
+typedef struct {
+	uint8_t *bytes;
+	size_t len;
+} content;
+
+/* A replay up to the end of its event data, in memory to be freed; after it nothing changes what the reader says. What is no replay is not
+ * read on. 0, or an errno. */
+int load(const char *path, content *c);
+/* How many bytes files have, as far as that is known before reading. */
+uint64_t total_size(char **paths, int count);
+
+/* ---- progress.c: a bar on standard error */
+
+enum { PROGRESS_AUTO, PROGRESS_ALWAYS, PROGRESS_NEVER };
+
+/* Shown if standard error is a terminal and there is much to do, or as it was asked for. */
+void progress_begin(int when, const char *what, uint64_t total);
+void progress_add(uint64_t done);
+/* Takes the bar away, before a line is printed and at the end. */
+void progress_clear(void);
+
+/* ---- the commands: each gives the exit status */
+
+int walk_files(char **paths, int count, int progress);
+int show_events(const char *path, int progress);
+int write_demo(const char *path);
+
+#endif

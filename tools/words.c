@@ -1,0 +1,84 @@
+/* Names and messages. */
+#include <stdarg.h>
+#include <stdio.h>
+#include <string.h>
+
+#include "tool.h"
+
+static const char *const REFUSALS[] = {
+	[SLP_OK] = "accepted",
+	[SLP_VERSION_TOO_NEW] = "the version is above 3.18.0",
+	[SLP_TOO_MANY] = "a count exceeds its maximum",
+	[SLP_BAD_STORE] = "a cell store's length is not columns times rows",
+	[SLP_WIDE_CELL] = "a cell exceeds its column's width",
+	[SLP_BAD_OFFSETS] = "offsets do not lead through the rows, or the version has no such rows",
+	[SLP_BAD_PRESENCE] = "presence bits do not match the frames",
+	[SLP_BAD_PORTS] = "there are over four ports, a port above 3, or a port twice",
+	[SLP_BAD_BLOCK] = "the start block is too short for the version, or over 65,535 bytes",
+	[SLP_BAD_START] = "a start field is missing, or a player type or text is out of its limits",
+	[SLP_BAD_CODES] = "cheat codes before 3.3, or not padded to blocks of 512 bytes",
+	[SLP_BAD_END] = "a double end without an end, or an initiator who is no player",
+	[SLP_SHORT_OUTPUT] = "the output is too short",
+	[SLP_OUT_OF_RANGE] = "a frame id, frame or row is out of range",
+	[SLP_NOT_A_REPLAY] = "not a replay: under 15 bytes, or a wrong signature",
+	[SLP_BAD_TABLE] = "the table of payload sizes is absent, not whole, or damaged",
+	[SLP_UNKNOWN_EVENT] = "an event whose code is not in the table of payload sizes",
+	[SLP_BAD_PLACE] = "an event that runs past the end of the event data",
+};
+
+const char *refusal_words(unsigned number)
+{
+	return number < sizeof REFUSALS / sizeof *REFUSALS ? REFUSALS[number] : "for a reason that is not known here";
+}
+
+const char *event_name(uint8_t code)
+{
+	switch (code) {
+	case SLP_EVENT_MESSAGE_SPLITTER: return "MessageSplitter";
+	case SLP_EVENT_PAYLOADS: return "Payloads";
+	case SLP_EVENT_GAME_START: return "GameStart";
+	case SLP_EVENT_FRAME_PRE: return "FramePre";
+	case SLP_EVENT_FRAME_POST: return "FramePost";
+	case SLP_EVENT_GAME_END: return "GameEnd";
+	case SLP_EVENT_FRAME_START: return "FrameStart";
+	case SLP_EVENT_ITEM: return "Item";
+	case SLP_EVENT_FRAME_END: return "FrameEnd";
+	case SLP_EVENT_GECKO_CODES: return "GeckoCodes";
+	case SLP_EVENT_FOD_PLATFORM: return "FodPlatform";
+	case SLP_EVENT_DREAMLAND_WHISPY: return "DreamlandWhispy";
+	case SLP_EVENT_STADIUM_TRANSFORMATION: return "StadiumTransformation";
+	default: return NULL;
+	}
+}
+
+const char *input_name(const char *path)
+{
+	return strcmp(path, "-") == 0 ? "standard input" : path;
+}
+
+void complain(const char *name, const char *format, ...)
+{
+	va_list rest;
+	progress_clear();
+	fflush(stdout);
+	fprintf(stderr, "slp: %s: ", name);
+	va_start(rest, format);
+	vfprintf(stderr, format, rest);
+	va_end(rest);
+	fputc('\n', stderr);
+}
+
+void complain_refused(const char *name, unsigned number, size_t offset)
+{
+	complain(name, "refused %u at byte %zu: %s", number, offset, refusal_words(number));
+}
+
+size_t declared_length(const uint8_t *file)
+{
+	return (size_t)file[11] << 24 | (size_t)file[12] << 16 | (size_t)file[13] << 8 | file[14];
+}
+
+void complain_cut(const char *name, const uint8_t *file, size_t len)
+{
+	complain(name, "cut: %zu of %zu bytes of event data are there", len - 15, declared_length(file));
+}
