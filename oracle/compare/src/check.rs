@@ -1,0 +1,147 @@
+//! One game through both: file, masks and rows.
+
+use std::panic::{catch_unwind, AssertUnwindSafe};
+
+use peppi::{frame::Rollbacks, game::immutable::Game, io::slippi};
+
+use crate::{adapt, generate::Case};
+
+/// What was compared, and how often it differed.
+#[derive(Default)]
+pub struct Counts {
+	pub games: usize,
+	pub files: usize,
+	pub bytes: usize,
+	pub masks: usize,
+	pub refused_masks: usize,
+	pub rows: usize,
+	pub differences: usize,
+}
+
+/// What a call of the Rust ends with: an answer, an error or a panic.
+pub fn run<T>(call: impl FnOnce() -> Result<T, String>) -> Result<T, String> {
+	catch_unwind(AssertUnwindSafe(call)).unwrap_or_else(|panic| {
+		let text = panic.downcast_ref::<String>().cloned().or(panic.downcast_ref::<&str>().map(|s| s.to_string()));
+		Err(format!("panic: {}", text.unwrap_or_default()))
+	})
+}
+
+/// The Rust's file of a game.
+pub fn file(game: &Game) -> Result<Vec<u8>, String> {
+	run(|| {
+		let mut file = Vec::new();
+		slippi::write(&mut file, game).map_err(|error| format!("error: {error}"))?;
+		Ok(file)
+	})
+}
+
+/// The Rust's mask of a game's frames.
+pub fn mask(game: &Game, keep: Rollbacks) -> Result<Vec<u8>, String> {
+	run(|| Ok(game.frames.rollbacks(keep).into_iter().map(u8::from).collect()))
+}
+
+/// A buffer whose every byte is known before a call.
+pub fn guarded(len: usize) -> Vec<u8> {
+	(0..len).map(guard).collect()
+}
+
+fn guard(i: usize) -> u8 {
+	(i * 167 + 89) as u8
+}
+
+fn kept(buffer: &[u8], from: usize) -> bool {
+	buffer.iter().enumerate().skip(from).all(|(i, &b)| b == guard(i))
+}
+
+/// Compares everything of one game; says the first difference of each kind.
+pub fn check(case: &Case, counts: &mut Counts) -> Vec<String> {
+	check_kinds(case, counts, &[check_file, check_masks, crate::rows::check])
+}
+
+/// Without rows: each row judges the whole game anew, which takes long in a large one.
+pub fn check_large(case: &Case, counts: &mut Counts) -> Vec<String> {
+	check_kinds(case, counts, &[check_file, check_masks])
+}
+
+type Kind = fn(&Case, &Game, &mut Counts) -> Option<String>;
+
+fn check_kinds(case: &Case, counts: &mut Counts, kinds: &[Kind]) -> Vec<String> {
+	let found: Vec<String> = match run(|| Ok(adapt::game(case))) {
+		Err(text) => vec![format!("no Rust game: {text}")],
+		Ok(game) => kinds.iter().filter_map(|kind| kind(case, &game, counts)).collect(),
+	};
+	counts.games += 1;
+	counts.differences += usize::from(!found.is_empty());
+	found
+}
+
+fn check_file(case: &Case, game: &Game, counts: &mut Counts) -> Option<String> {
+	let theirs = match file(game) {
+		Ok(file) => file,
+		Err(text) => return Some(format!("the Rust's writer: {text}")),
+	};
+	counts.files += 1;
+	counts.bytes += theirs.len();
+	// an output that just fits in every other game, else with room to spare
+	let spare = if counts.games % 2 == 0 { 0 } else { 1 + counts.games % 64 };
+	let mut out = guarded(theirs.len() + spare);
+	match slp::write(&case.game, &case.stores(), &mut out) {
+		Err(number) => return Some(format!("our writer refuses {number} with room for the Rust's file")),
+		Ok(len) if len != theirs.len() => return Some(format!("our file has {len} bytes, the Rust's {}", theirs.len())),
+		Ok(len) if !kept(&out, len) => return Some("bytes past our file are touched".into()),
+		Ok(_) => (),
+	}
+	if let Some(at) = (0..theirs.len()).find(|&i| out[i] != theirs[i]) {
+		return Some(format!("byte {at} of the files: ours {:02x}, the Rust's {:02x}", out[at], theirs[at]));
+	}
+	check_short(case, theirs.len() - 1).or_else(|| check_walk(&theirs))
+}
+
+/// An output that is one byte short is refused and stays.
+fn check_short(case: &Case, len: usize) -> Option<String> {
+	let mut out = guarded(len);
+	let answer = slp::write(&case.game, &case.stores(), &mut out);
+	(answer != Err(12) || !kept(&out, 0)).then(|| format!("a short output is touched, or not refused: {answer:?}"))
+}
+
+/// Our reader finds the Rust's file whole, with nothing left over.
+fn check_walk(file: &[u8]) -> Option<String> {
+	match slp::walk(file) {
+		Ok(walked) if walked.whole && walked.stray == 0 => None,
+		other => Some(format!("our reader on the Rust's file: {other:?}")),
+	}
+}
+
+fn check_masks(case: &Case, game: &Game, counts: &mut Counts) -> Option<String> {
+	let kinds = [(slp::Rollbacks::ExceptFirst, Rollbacks::ExceptFirst), (slp::Rollbacks::ExceptLast, Rollbacks::ExceptLast)];
+	kinds.into_iter().find_map(|(ours, theirs)| check_mask(case, game, ours, theirs, counts))
+}
+
+fn check_mask(case: &Case, game: &Game, keep: slp::Rollbacks, rust_keep: Rollbacks, counts: &mut Counts) -> Option<String> {
+	let (frames, needed) = (case.ids.len(), slp::scratch_len(&case.ids));
+	let in_range = case.ids_in_range();
+	let mut mask = guarded(frames + 5);
+	let mut scratch = guarded(if in_range { needed + 5 } else { 5 });
+	let answer = slp::rollbacks(&case.ids, keep, &mut mask, &mut scratch);
+	if !in_range {
+		counts.refused_masks += 1;
+		let stays = answer == Err(13) && kept(&mask, 0) && kept(&scratch, 0);
+		return (!stays).then(|| format!("mask {keep:?} of ids out of range: {answer:?}"));
+	}
+	let theirs = match self::mask(game, rust_keep) {
+		Ok(mask) => mask,
+		Err(text) => return Some(format!("the Rust's mask: {text}")),
+	};
+	counts.masks += 1;
+	let occurs = case.ids.iter().all(|&id| scratch[(id as i32 + 123) as usize] == 1);
+	let ones = scratch[..needed].iter().filter(|&&b| b == 1).count();
+	let zeros = scratch[..needed].iter().filter(|&&b| b == 0).count();
+	let distinct = case.ids.iter().collect::<std::collections::HashSet<_>>().len();
+	match () {
+		_ if answer != Ok(()) => Some(format!("our mask {keep:?}: {answer:?}")),
+		_ if mask[..frames] != theirs => Some(format!("mask {keep:?}: ours {:?}, the Rust's {theirs:?}", &mask[..frames])),
+		_ if !kept(&mask, frames) || !kept(&scratch, needed) => Some(format!("mask {keep:?}: bytes beyond are touched")),
+		_ if !occurs || ones != distinct || ones + zeros != needed => Some(format!("mask {keep:?}: scratch is not the ids' marks")),
+		_ => None,
+	}
+}

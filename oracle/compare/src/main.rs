@@ -1,0 +1,97 @@
+//! libslp.a against the given Rust.
+//!
+//!     compare games COUNT SEED..   the worked cases by name, large games, and so many generated games of each seed
+//!     compare first COUNT SEED     generated games until the first difference, which it says; ends with 1 if there is none
+//!     compare refusals             what the Rust does with inputs that are refused here, as a table
+//!     compare vectors DIR          stored vectors
+//!     compare wrong DIR            edits a copy of peppi at DIR into wrong writers, switched on by SLP_WRONG; says their numbers
+
+mod adapt;
+mod cases;
+mod check;
+mod columns;
+mod generate;
+mod random;
+mod refusals;
+mod rows;
+mod values;
+mod vectors;
+mod wrong;
+
+use std::process::ExitCode;
+
+use check::Counts;
+use generate::Size;
+
+fn main() -> ExitCode {
+	// a panic of the Rust is an answer here, and is said where it matters
+	std::panic::set_hook(Box::new(|_| ()));
+	let arguments: Vec<String> = std::env::args().skip(1).collect();
+	let words: Vec<&str> = arguments.iter().map(String::as_str).collect();
+	let done = match words[..] {
+		["games", count, ref seeds @ ..] => games(number(count) as usize, seeds),
+		["first", count, seed] => first(number(count) as usize, number(seed)),
+		["refusals"] => refusals::table(),
+		["vectors", dir] => vectors::write(dir),
+		["wrong", dir] => wrong::edit(dir),
+		_ => Err("games COUNT SEED.. | first COUNT SEED | refusals | vectors DIR | wrong DIR".into()),
+	};
+	match done {
+		Ok(()) => ExitCode::SUCCESS,
+		Err(text) => {
+			eprintln!("{text}");
+			ExitCode::FAILURE
+		}
+	}
+}
+
+fn number(word: &str) -> u64 {
+	word.parse().unwrap_or_else(|_| {
+		eprintln!("not a number: {word}");
+		std::process::exit(2)
+	})
+}
+
+/// Compares the worked cases, a large game of each version, and `count` games of each seed. The first few differences are said in full.
+fn games(count: usize, seeds: &[&str]) -> Result<(), String> {
+	let mut counts = Counts::default();
+	cases::run(&mut counts)?;
+	for n in 0..40 {
+		let case = generate::game(1, n, Size::Large);
+		check::check_large(&case, &mut counts).iter().for_each(|text| println!("large {}: {text}", case.name));
+	}
+	let numbers = seeds.iter().flat_map(|seed| (0..count).map(|n| (number(seed), n)));
+	for (seed, n) in numbers {
+		let case = generate::game(seed, n, Size::Any);
+		let found = check::check(&case, &mut counts);
+		if counts.differences <= 5 {
+			found.iter().for_each(|text| println!("{}: {text}", case.name));
+		}
+	}
+	summary(&counts)
+}
+
+/// Says the first difference of a wrong writer.
+fn first(count: usize, seed: u64) -> Result<(), String> {
+	let mut counts = Counts::default();
+	for n in 0..count {
+		let case = generate::game(seed, n, Size::Any);
+		if let Some(text) = check::check(&case, &mut counts).first() {
+			let short: String = text.chars().take(110).collect();
+			println!("found at game {}: {short}", n + 1);
+			return Ok(());
+		}
+	}
+	Err(format!("no difference in {count} games"))
+}
+
+fn summary(c: &Counts) -> Result<(), String> {
+	println!(
+		"{} games: {} files ({} bytes), {} masks ({} refused), {} rows, {} differences",
+		c.games, c.files, c.bytes, c.masks, c.refused_masks, c.rows, c.differences
+	);
+	match c.differences {
+		0 => Ok(()),
+		n => Err(format!("{n} games differ")),
+	}
+}

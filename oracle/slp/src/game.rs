@@ -1,0 +1,225 @@
+//! A game as plain data, field by field as in slp.h. A mark is a byte: 0 is no, everything else is yes. Floats and signed numbers are their
+//! bits where a field is unsigned.
+
+/// A version; 3.18.0 is the newest.
+#[repr(C)]
+#[derive(Clone, Copy, Debug, Default, PartialEq, Eq)]
+pub struct Version {
+	pub major: u8,
+	pub minor: u8,
+	pub patch: u8,
+}
+
+/// How many rows the families have.
+#[repr(C)]
+#[derive(Clone, Copy, Debug, Default, PartialEq, Eq)]
+pub struct Counts {
+	pub frames: usize,
+	pub items: usize,
+	pub fods: usize,
+	pub whispys: usize,
+	pub stadiums: usize,
+}
+
+/// A port column: its port (0 to 3), whether it has a follower, and how many presence bytes both have: 0 (always present) or
+/// ceil(frames / 8).
+#[repr(C)]
+#[derive(Clone, Copy, Debug, Default, PartialEq, Eq)]
+pub struct PortColumn {
+	pub port: u8,
+	/// a mark
+	pub follower: u8,
+	pub leader_presence: usize,
+	pub follower_presence: usize,
+}
+
+/// What is said of a game's frames beside their cells.
+#[repr(C)]
+#[derive(Clone, Copy, Debug, Default, PartialEq, Eq)]
+pub struct Frames {
+	pub version: Version,
+	pub counts: Counts,
+	pub ports: [PortColumn; 4],
+	pub port_count: usize,
+}
+
+/// A text: the first `len` bytes.
+#[repr(C)]
+#[derive(Clone, Copy, Debug, PartialEq, Eq)]
+pub struct Text {
+	pub bytes: [u8; 50],
+	pub len: usize,
+}
+
+impl Default for Text {
+	fn default() -> Self {
+		Self { bytes: [0; 50], len: 0 }
+	}
+}
+
+impl Text {
+	/// A text of at most 50 bytes. A longer one keeps its length, and a version that writes it refuses it.
+	pub fn new(text: &[u8]) -> Self {
+		let mut bytes = [0; 50];
+		let kept = text.len().min(50);
+		bytes[..kept].copy_from_slice(&text[..kept]);
+		Self { bytes, len: text.len() }
+	}
+
+	/// Its bytes, as far as they are kept.
+	pub fn as_bytes(&self) -> &[u8] {
+		&self.bytes[..self.len.min(50)]
+	}
+}
+
+/// A number that may be missing.
+#[repr(C)]
+#[derive(Clone, Copy, Debug, Default, PartialEq, Eq)]
+pub struct Optional {
+	/// a mark
+	pub given: u8,
+	pub value: u8,
+}
+
+/// A team; without one the block keeps the template's colour and shade.
+#[repr(C)]
+#[derive(Clone, Copy, Debug, Default, PartialEq, Eq)]
+pub struct Team {
+	/// a mark
+	pub given: u8,
+	pub color: u8,
+	pub shade: u8,
+}
+
+/// The controller fix of a player (from 1.0).
+#[repr(C)]
+#[derive(Clone, Copy, Debug, Default, PartialEq, Eq)]
+pub struct Ucf {
+	/// a mark
+	pub given: u8,
+	pub dash_back: u32,
+	pub shield_drop: u32,
+}
+
+/// A name of at most 30 bytes and a connect code of 9 (from 3.9), and a user id of 28 (from 3.11).
+#[repr(C)]
+#[derive(Clone, Copy, Debug, Default, PartialEq, Eq)]
+pub struct Netplay {
+	/// a mark, for name and code
+	pub given: u8,
+	pub name: Text,
+	pub code: Text,
+	/// a mark
+	pub suid_given: u8,
+	pub suid: Text,
+}
+
+/// A port's player, who may be missing.
+#[repr(C)]
+#[derive(Clone, Copy, Debug, Default, PartialEq, Eq)]
+pub struct Seat {
+	/// a mark
+	pub given: u8,
+	pub character: u8,
+	/// 0 human, 1 CPU, 2 demo
+	pub kind: u8,
+	pub stocks: u8,
+	pub costume: u8,
+	pub team: Team,
+	pub handicap: u8,
+	pub bitfield: u8,
+	pub cpu_level: Optional,
+	pub damage_start: u16,
+	pub damage_spawn: u16,
+	pub offense_ratio: u32,
+	pub defense_ratio: u32,
+	pub model_scale: u32,
+	pub ucf: Ucf,
+	/// a mark
+	pub name_tag_given: u8,
+	/// at most 16 bytes (from 1.3)
+	pub name_tag: Text,
+	pub netplay: Netplay,
+}
+
+/// Scene numbers (from 3.7).
+#[repr(C)]
+#[derive(Clone, Copy, Debug, Default, PartialEq, Eq)]
+pub struct Scene {
+	/// a mark
+	pub given: u8,
+	pub minor: u8,
+	pub major: u8,
+}
+
+/// The match that a game belongs to (from 3.14).
+#[repr(C)]
+#[derive(Clone, Copy, Debug, Default, PartialEq, Eq)]
+pub struct Match {
+	/// a mark
+	pub given: u8,
+	/// at most 50 bytes
+	pub id: Text,
+	pub game: u32,
+	pub tiebreaker: u32,
+}
+
+/// What the start block says. Seat n is port n. Fields that the version does not write are ignored.
+#[repr(C)]
+#[derive(Clone, Copy, Debug, Default, PartialEq, Eq)]
+pub struct Start {
+	pub bitfield: [u8; 4],
+	pub is_raining_bombs: u8,
+	pub is_teams: u8,
+	pub item_spawn_frequency: u8,
+	pub self_destruct_score: u8,
+	pub stage: u16,
+	pub timer: u32,
+	pub item_spawn_bitfield: [u8; 5],
+	pub damage_ratio: u32,
+	pub seats: [Seat; 4],
+	pub random_seed: u32,
+	pub is_pal: Optional,
+	pub is_frozen_ps: Optional,
+	pub scene: Scene,
+	pub language: Optional,
+	pub match_info: Match,
+}
+
+/// How a game ended.
+#[repr(C)]
+#[derive(Clone, Copy, Debug, Default, PartialEq, Eq)]
+pub struct End {
+	/// a mark
+	pub given: u8,
+	pub method: u8,
+	/// 0 to 3, or 255 for none
+	pub initiator: u8,
+	/// marks: a port without one gets 255 as its placement
+	pub placed: [u8; 4],
+	pub placements: [u8; 4],
+}
+
+/// A game beside its slices.
+#[repr(C)]
+#[derive(Clone, Copy, Debug, Default, PartialEq, Eq)]
+pub struct Game {
+	pub frames: Frames,
+	pub start: Start,
+	pub end: End,
+	/// a mark: GameEnd is written twice
+	pub double_end: u8,
+	/// a mark: codes are ignored without it
+	pub codes_given: u8,
+	/// a mark: metadata is ignored without it
+	pub metadata_given: u8,
+	/// bytes of the cheat codes before they were padded
+	pub actual_size: u32,
+}
+
+// The layout of slp.h on x86-64.
+const _: () = {
+	use std::mem::{offset_of, size_of};
+	assert!(size_of::<Frames>() == 152 && size_of::<Seat>() == 320 && size_of::<Start>() == 1408 && size_of::<End>() == 11);
+	assert!(size_of::<Game>() == 1584 && offset_of!(Game, end) == 1560 && offset_of!(Game, actual_size) == 1576);
+};

@@ -1,0 +1,306 @@
+//! Rows: one record of a game as a struct with named fields.
+//!
+//! Fields that the version lacks are 0. Presence is not looked at. `bits` has the record's cells as they are, in the order of its columns: a
+//! float field is the float of its cell, and all patterns of a NaN are one NaN there, so look into `bits` for the pattern.
+//!
+//! ```
+//! // One frame of version 0.1.0 with one player: Pre has 14 columns, Post has 11, of which the sixth is the percent.
+//! let mut frames = slp::Frames { port_count: 1, ..Default::default() };
+//! (frames.version.minor, frames.counts.frames) = (1, 1);
+//! let mut posts = [0; 11];
+//! posts[5] = 12.5f32.to_bits();
+//! let stores = slp::Stores { ids: &[0], pres: &[0; 14], posts: &posts, ..Default::default() };
+//!
+//! let row = slp::rows::frame_row(&frames, &stores, 0).unwrap();
+//! assert_eq!((row.id, row.port_count, row.ports[0].leader.post.percent), (0, 1, 12.5));
+//! assert_eq!(slp::rows::post_row(&frames, &stores, 0, 0).unwrap(), row.ports[0].leader.post);
+//! // There is no second frame.
+//! assert_eq!(slp::rows::frame_row(&frames, &stores, 1), Err(13));
+//! ```
+
+use crate::{raw, Frames, Stores, Version};
+
+#[repr(C)]
+#[derive(Clone, Copy, Debug, Default, PartialEq)]
+pub struct Position {
+	pub x: f32,
+	pub y: f32,
+}
+
+#[repr(C)]
+#[derive(Clone, Copy, Debug, Default, PartialEq)]
+pub struct Velocity {
+	pub x: f32,
+	pub y: f32,
+}
+
+#[repr(C)]
+#[derive(Clone, Copy, Debug, Default, PartialEq)]
+pub struct TriggersPhysical {
+	pub l: f32,
+	pub r: f32,
+}
+
+#[repr(C)]
+#[derive(Clone, Copy, Debug, Default, PartialEq)]
+pub struct Velocities {
+	pub self_x_air: f32,
+	pub self_y: f32,
+	pub knockback_x: f32,
+	pub knockback_y: f32,
+	pub self_x_ground: f32,
+}
+
+#[repr(C)]
+#[derive(Clone, Copy, Debug, Default, PartialEq)]
+pub struct Pre {
+	pub version: Version,
+	pub bits: [u32; 32],
+	pub random_seed: u32,
+	pub state: u16,
+	pub position: Position,
+	pub direction: f32,
+	pub joystick: Position,
+	pub cstick: Position,
+	pub triggers: f32,
+	pub buttons: u32,
+	pub buttons_physical: u16,
+	pub triggers_physical: TriggersPhysical,
+	/// from 1.2
+	pub raw_analog_x: i8,
+	/// from 1.4
+	pub percent: f32,
+	/// from 3.15
+	pub raw_analog_y: i8,
+	/// from 3.17
+	pub raw_analog_cstick_x: i8,
+	/// from 3.17
+	pub raw_analog_cstick_y: i8,
+}
+
+#[repr(C)]
+#[derive(Clone, Copy, Debug, Default, PartialEq)]
+pub struct Post {
+	pub version: Version,
+	pub bits: [u32; 32],
+	pub character: u8,
+	pub state: u16,
+	pub position: Position,
+	pub direction: f32,
+	pub percent: f32,
+	pub shield: f32,
+	pub last_attack_landed: u8,
+	pub combo_count: u8,
+	pub last_hit_by: u8,
+	pub stocks: u8,
+	/// from 0.2
+	pub state_age: f32,
+	/// from 2.0, as the next five
+	pub state_flags: [u8; 5],
+	pub misc_as: f32,
+	pub airborne: u8,
+	pub ground: u16,
+	pub jumps: u8,
+	pub l_cancel: u8,
+	/// from 2.1
+	pub hurtbox_state: u8,
+	/// from 3.5
+	pub velocities: Velocities,
+	/// from 3.8
+	pub hitlag: f32,
+	/// from 3.11
+	pub animation_index: u32,
+	/// from 3.16
+	pub last_hit_by_instance: u16,
+	/// from 3.16
+	pub instance_id: u16,
+}
+
+#[repr(C)]
+#[derive(Clone, Copy, Debug, Default, PartialEq)]
+pub struct Item {
+	pub version: Version,
+	pub bits: [u32; 32],
+	pub type_id: u16,
+	pub state: u8,
+	pub direction: f32,
+	pub velocity: Velocity,
+	pub position: Position,
+	pub damage: u16,
+	pub timer: f32,
+	pub id: u32,
+	/// from 3.2
+	pub misc: [u8; 4],
+	/// from 3.6
+	pub owner: i8,
+	/// from 3.16
+	pub instance_id: u16,
+}
+
+#[repr(C)]
+#[derive(Clone, Copy, Debug, Default, PartialEq)]
+pub struct FrameStart {
+	pub version: Version,
+	pub bits: [u32; 32],
+	/// from 2.2
+	pub random_seed: u32,
+	/// from 3.10
+	pub scene_frame_counter: u32,
+}
+
+#[repr(C)]
+#[derive(Clone, Copy, Debug, Default, PartialEq)]
+pub struct FrameEnd {
+	pub version: Version,
+	pub bits: [u32; 32],
+	/// from 3.7
+	pub latest_finalized_frame: i32,
+}
+
+#[repr(C)]
+#[derive(Clone, Copy, Debug, Default, PartialEq)]
+pub struct FodPlatform {
+	pub version: Version,
+	pub bits: [u32; 32],
+	pub platform: u8,
+	pub height: f32,
+}
+
+#[repr(C)]
+#[derive(Clone, Copy, Debug, Default, PartialEq)]
+pub struct DreamlandWhispy {
+	pub version: Version,
+	pub bits: [u32; 32],
+	pub direction: u8,
+}
+
+#[repr(C)]
+#[derive(Clone, Copy, Debug, Default, PartialEq)]
+pub struct StadiumTransformation {
+	pub version: Version,
+	pub bits: [u32; 32],
+	pub event: u16,
+	pub type_id: u16,
+}
+
+#[repr(C)]
+#[derive(Clone, Copy, Debug, Default, PartialEq)]
+pub struct Data {
+	pub pre: Pre,
+	pub post: Post,
+}
+
+#[repr(C)]
+#[derive(Clone, Copy, Debug, Default, PartialEq)]
+pub struct PortData {
+	pub port: u8,
+	/// 1 or 0
+	pub follower_given: u8,
+	pub leader: Data,
+	/// all 0 where there is none
+	pub follower: Data,
+}
+
+/// Which rows of a family a frame has: 0 and 0 where the version lacks the family.
+#[repr(C)]
+#[derive(Clone, Copy, Debug, Default, PartialEq, Eq)]
+pub struct Range {
+	pub first: usize,
+	pub count: usize,
+}
+
+#[repr(C)]
+#[derive(Clone, Copy, Debug, Default, PartialEq)]
+pub struct Frame {
+	pub id: i32,
+	pub port_count: usize,
+	/// in the order of the port columns; the rest is all 0
+	pub ports: [PortData; 4],
+	pub start: FrameStart,
+	pub end: FrameEnd,
+	pub items: Range,
+	pub fod_platforms: Range,
+	pub dreamland_whispys: Range,
+	pub stadium_transformations: Range,
+}
+
+/// A row's answer: the row, or its refusal, 1 to 7 as for [`crate::write`], or 13 where there is no such frame, row or slot.
+fn answer<T>(answer: raw::Answer<T>) -> Result<T, u8> {
+	match answer.refused {
+		0 => Ok(answer.row),
+		number => Err(number),
+	}
+}
+
+macro_rules! row {
+	($(#[$doc:meta])* $name:ident, $call:ident, $row:ty, $($number:ident),*) => {
+		$(#[$doc])*
+		pub fn $name(frames: &Frames, stores: &Stores, $($number: usize),*) -> Result<$row, u8> {
+			let s = stores;
+			// SAFETY: every pointer comes with the length of its slice, and the call keeps nothing.
+			answer(unsafe {
+				raw::$call(
+					*frames,
+					s.ids.as_ptr(),
+					s.ids.len(),
+					s.starts.as_ptr(),
+					s.starts.len(),
+					s.pres.as_ptr(),
+					s.pres.len(),
+					s.posts.as_ptr(),
+					s.posts.len(),
+					s.ends.as_ptr(),
+					s.ends.len(),
+					s.items.as_ptr(),
+					s.items.len(),
+					s.fods.as_ptr(),
+					s.fods.len(),
+					s.whispys.as_ptr(),
+					s.whispys.len(),
+					s.stadiums.as_ptr(),
+					s.stadiums.len(),
+					s.item_offsets.as_ptr(),
+					s.item_offsets.len(),
+					s.fod_offsets.as_ptr(),
+					s.fod_offsets.len(),
+					s.whispy_offsets.as_ptr(),
+					s.whispy_offsets.len(),
+					s.stadium_offsets.as_ptr(),
+					s.stadium_offsets.len(),
+					s.presence.as_ptr(),
+					s.presence.len(),
+					$($number),*
+				)
+			})
+		}
+	};
+}
+
+row!(
+	/// Frame `index`: its id, start, end and players, and which items and stage rows it has.
+	frame_row, slp_frame_row, Frame, index
+);
+row!(
+	/// A player's Pre of frame `index`. Slots are leader, then follower where there is one, of each port column in order.
+	pre_row, slp_pre_row, Pre, slot, index
+);
+row!(
+	/// A player's Post of frame `index`.
+	post_row, slp_post_row, Post, slot, index
+);
+row!(
+	/// Item `index`, counted over the whole game; a frame's row says which are its own.
+	item_row, slp_item_row, Item, index
+);
+row!(
+	/// Row `index` of the platforms of Fountain of Dreams, counted over the whole game.
+	fod_platform_row, slp_fod_platform_row, FodPlatform, index
+);
+row!(
+	/// Row `index` of Dreamland's wind, counted over the whole game.
+	dreamland_whispy_row, slp_dreamland_whispy_row, DreamlandWhispy, index
+);
+row!(
+	/// Row `index` of Pokemon Stadium's transformations, counted over the whole game.
+	stadium_transformation_row, slp_stadium_transformation_row, StadiumTransformation, index
+);
