@@ -1,0 +1,80 @@
+//! Games of one size for both writers.
+
+use slp::{Counts, End, Optional, PortColumn, Scene, Version};
+
+use crate::{columns, generate::Case, random::Random};
+
+/// What a game is made of.
+#[derive(Clone, Copy)]
+pub struct Shape {
+	pub name: &'static str,
+	pub version: (u8, u8),
+	pub frames: usize,
+	pub players: usize,
+	/// every so many frames an item row; 0 for none
+	pub item_every: usize,
+}
+
+#[rustfmt::skip]
+pub const SHAPES: &[Shape] = &[
+	Shape { name: "3.18, two players, 3,000 frames", version: (3, 18), frames: 3_000, players: 2, item_every: 0 },
+	Shape { name: "3.18, two players, 20,000 frames", version: (3, 18), frames: 20_000, players: 2, item_every: 0 },
+	Shape { name: "3.18, four players and items, 9,000 frames", version: (3, 18), frames: 9_000, players: 4, item_every: 2 },
+	Shape { name: "2.0, two players, 9,000 frames", version: (2, 0), frames: 9_000, players: 2, item_every: 0 },
+];
+
+pub fn game(shape: Shape) -> Case {
+	let mut random = Random::new(7);
+	let r = &mut random;
+	let (version, frames) = (shape.version, shape.frames);
+	let mut case = Case { name: shape.name.into(), ..Default::default() };
+	let input = &mut case.game.frames;
+	input.version = Version { major: version.0, minor: version.1, patch: 0 };
+	input.port_count = shape.players;
+	(0..shape.players).for_each(|p| input.ports[p] = PortColumn { port: p as u8, ..Default::default() });
+	input.counts = Counts { frames, ..Default::default() };
+	// one frame in eight is played again
+	case.ids = (0..frames).map(|i| (i as i32 - 123 - i32::from(i % 8 == 7)) as u32).collect();
+	case.starts = cells(r, columns::START, version, frames);
+	case.ends = cells(r, columns::END, version, frames);
+	case.pres = (0..shape.players).flat_map(|_| cells(r, columns::PRE, version, frames)).collect();
+	case.posts = (0..shape.players).flat_map(|_| cells(r, columns::POST, version, frames)).collect();
+	families(r, &mut case, shape);
+	start(&mut case);
+	case.template = r.bytes(columns::block_len(version));
+	case
+}
+
+fn cells(r: &mut Random, columns: &[(u8, (u8, u8))], version: (u8, u8), rows: usize) -> Vec<u32> {
+	columns::widths(columns, version).iter().flat_map(|&w| (0..rows).map(|_| r.cell(w)).collect::<Vec<_>>()).collect()
+}
+
+fn families(r: &mut Random, case: &mut Case, shape: Shape) {
+	let offsets = |every: usize| (0..=shape.frames).map(|i| if every == 0 { 0 } else { (i / every) as u32 }).collect::<Vec<_>>();
+	if shape.version >= (3, 0) {
+		case.item_offsets = offsets(shape.item_every);
+		let items = case.item_offsets[shape.frames] as usize;
+		case.items = cells(r, columns::ITEM, shape.version, items);
+		case.game.frames.counts.items = items;
+	}
+	if shape.version >= (3, 18) {
+		case.fod_offsets = offsets(0);
+		case.whispy_offsets = offsets(0);
+		case.stadium_offsets = offsets(0);
+	}
+}
+
+/// Everything that a version may want is given.
+fn start(case: &mut Case) {
+	let start = &mut case.game.start;
+	start.is_pal = Optional { given: 1, value: 0 };
+	start.is_frozen_ps = Optional { given: 1, value: 0 };
+	start.scene = Scene { given: 1, minor: 2, major: 8 };
+	start.language = Optional { given: 1, value: 1 };
+	start.match_info.given = 1;
+	for seat in start.seats.iter_mut() {
+		(seat.given, seat.ucf.given, seat.name_tag_given) = (1, 1, 1);
+		(seat.netplay.given, seat.netplay.suid_given) = (1, 1);
+	}
+	case.game.end = End { given: 1, method: 2, initiator: 255, ..Default::default() };
+}

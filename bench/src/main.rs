@@ -1,0 +1,107 @@
+//! The original Rust and libslp.a on the same games, in one run.
+//!
+//!     bench            nanoseconds, the best of many runs
+//!     bench count      instructions, under valgrind (callgrind): steady on any machine
+//!     bench once WHAT GAME REPEATS    what `count` runs
+
+#[allow(dead_code)]
+#[path = "../../oracle/compare/src/adapt.rs"]
+mod adapt;
+#[allow(dead_code)]
+#[path = "../../oracle/compare/src/columns.rs"]
+mod columns;
+mod games;
+#[allow(dead_code)]
+#[path = "../../oracle/compare/src/generate.rs"]
+mod generate;
+#[allow(dead_code)]
+#[path = "../../oracle/compare/src/random.rs"]
+mod random;
+mod work;
+
+use std::{process::Command, time::Instant};
+
+use games::SHAPES;
+use work::{Work, WHAT};
+
+fn main() {
+	let arguments: Vec<String> = std::env::args().skip(1).collect();
+	let words: Vec<&str> = arguments.iter().map(String::as_str).collect();
+	match words[..] {
+		[] => times(),
+		["count"] => counts(),
+		["once", what, game, repeats] => once(what, number(game), number(repeats)),
+		_ => {
+			eprintln!("usage: bench [count]");
+			std::process::exit(2)
+		}
+	}
+}
+
+fn number(word: &str) -> usize {
+	word.parse().unwrap_or_else(|_| {
+		eprintln!("not a number: {word}");
+		std::process::exit(2)
+	})
+}
+
+/// The best of some runs, in nanoseconds: what other work on the machine adds is left out as far as it can be.
+fn best(work: &mut Work, what: &str) -> f64 {
+	let began = Instant::now();
+	let mut least = f64::INFINITY;
+	let mut runs = 0;
+	while runs < 15 || (runs < 400 && began.elapsed().as_millis() < 300) {
+		let start = Instant::now();
+		work.run(what);
+		least = least.min(start.elapsed().as_nanos() as f64);
+		runs += 1;
+	}
+	least
+}
+
+fn heading(work: &Work, unit: &str, speed: &str) {
+	println!("\n{} ({} bytes, {} events)", work.name(), work.len(), work.events());
+	println!("{:<34} {:>12} {:>12} {:>10}", "", unit, "", speed);
+}
+
+fn times() {
+	for &shape in SHAPES {
+		let mut work = Work::new(shape);
+		heading(&work, "ns", "MB/s");
+		for what in WHAT {
+			let least = best(&mut work, what);
+			let speed = if work.moves_file(what) { format!("{:.0}", work.len() as f64 / least * 1e3) } else { String::new() };
+			println!("{what:<34} {:>12.2} {:>12} {speed:>10}", least / work.units(what) as f64, work.unit(what));
+		}
+	}
+}
+
+fn counts() {
+	for (i, &shape) in SHAPES.iter().enumerate() {
+		let work = Work::new(shape);
+		heading(&work, "instructions", "");
+		for what in WHAT {
+			let each = (collected(what, i, 3) - collected(what, i, 1)) / 2;
+			println!("{what:<34} {:>12.1} {:>12}", each as f64 / work.units(what) as f64, work.unit(what));
+		}
+	}
+}
+
+/// The instructions of a whole process that does the work so many times.
+fn collected(what: &str, game: usize, repeats: usize) -> u64 {
+	let own = std::env::current_exe().unwrap();
+	let output = Command::new("valgrind")
+		.args(["--tool=callgrind", "--callgrind-out-file=/dev/null"])
+		.arg(own)
+		.args(["once", what, &game.to_string(), &repeats.to_string()])
+		.output()
+		.expect("valgrind");
+	let text = String::from_utf8_lossy(&output.stderr).into_owned();
+	let line = text.lines().find(|line| line.contains("Collected")).unwrap_or_else(|| panic!("no count: {text}"));
+	line.rsplit(' ').next().unwrap().parse().unwrap()
+}
+
+fn once(what: &str, game: usize, repeats: usize) {
+	let mut work = Work::new(SHAPES[game]);
+	(0..repeats).for_each(|_| work.run(what));
+}

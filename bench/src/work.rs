@@ -1,0 +1,117 @@
+//! What is timed: each by name, on buffers that are made before.
+
+use std::hint::black_box;
+
+use peppi::{frame::Rollbacks, game::immutable::Game, io::slippi};
+
+use crate::{
+	adapt,
+	games::{self, Shape},
+	generate::Case,
+};
+
+pub const WHAT: &[&str] = &[
+	"write: Rust to a fixed slice",
+	"write: Rust to a Vec with room",
+	"write: libslp",
+	"write: copy of the bytes",
+	"mask, except first: Rust",
+	"mask, except first: libslp",
+	"mask, except last: libslp",
+	"mask, except first: plain C",
+	"walk: libslp",
+	"walk: plain C",
+];
+
+extern "C" {
+	fn plain_walk(file: *const u8, len: usize) -> usize;
+	fn plain_mask(ids: *const u32, frames: usize, mask: *mut u8, scratch: *mut u8, scratch_len: usize);
+}
+
+pub struct Work {
+	case: Case,
+	rust: Game,
+	file: Vec<u8>,
+	fixed: Vec<u8>,
+	room: Vec<u8>,
+	events: usize,
+	mask: Vec<u8>,
+	scratch: Vec<u8>,
+}
+
+impl Work {
+	/// The game, with both writers' files compared.
+	pub fn new(shape: Shape) -> Self {
+		let case = games::game(shape);
+		let rust = adapt::game(&case);
+		let mut file = Vec::new();
+		slippi::write(&mut file, &rust).unwrap();
+		let mut fixed = vec![0; file.len()];
+		assert_eq!(slp::write(&case.game, &case.stores(), &mut fixed), Ok(file.len()));
+		assert!(fixed == file, "the files differ");
+		let events = slp::walk(&file).unwrap().events;
+		let mask = vec![0; case.ids.len()];
+		let scratch = vec![0; slp::scratch_len(&case.ids)];
+		let room = Vec::with_capacity(file.len());
+		Self { case, rust, file, fixed, room, events, mask, scratch }
+	}
+
+	pub fn name(&self) -> &str {
+		&self.case.name
+	}
+
+	pub fn len(&self) -> usize {
+		self.file.len()
+	}
+
+	pub fn events(&self) -> usize {
+		self.events
+	}
+
+	/// What a number is for: a frame, or an event.
+	pub fn unit(&self, what: &str) -> &'static str {
+		if what.starts_with("walk") { "an event" } else { "a frame" }
+	}
+
+	pub fn units(&self, what: &str) -> usize {
+		if what.starts_with("walk") { self.events } else { self.case.ids.len() }
+	}
+
+	pub fn moves_file(&self, what: &str) -> bool {
+		!what.starts_with("mask")
+	}
+
+	pub fn run(&mut self, what: &str) {
+		match what {
+			"write: Rust to a fixed slice" => {
+				let mut out: &mut [u8] = &mut self.fixed;
+				slippi::write(&mut out, black_box(&self.rust)).unwrap()
+			}
+			"write: Rust to a Vec with room" => {
+				self.room.clear();
+				slippi::write(&mut self.room, black_box(&self.rust)).unwrap()
+			}
+			"write: libslp" => drop(black_box(slp::write(&self.case.game, &self.case.stores(), &mut self.fixed))),
+			"write: copy of the bytes" => self.fixed.copy_from_slice(black_box(&self.file)),
+			"walk: libslp" => drop(black_box(slp::walk(&self.file))),
+			// SAFETY: the file is whole and its table is right, as the library's walk found.
+			"walk: plain C" => drop(black_box(unsafe { plain_walk(self.file.as_ptr(), self.file.len()) })),
+			_ => self.run_mask(what),
+		}
+		black_box((&mut self.fixed, &mut self.mask));
+	}
+
+	fn run_mask(&mut self, what: &str) {
+		let ids = &self.case.ids;
+		match what {
+			"mask, except first: Rust" => drop(black_box(self.rust.frames.rollbacks(Rollbacks::ExceptFirst))),
+			"mask, except first: libslp" => slp::rollbacks(ids, slp::Rollbacks::ExceptFirst, &mut self.mask, &mut self.scratch).unwrap(),
+			"mask, except last: libslp" => slp::rollbacks(ids, slp::Rollbacks::ExceptLast, &mut self.mask, &mut self.scratch).unwrap(),
+			"mask, except first: plain C" => {
+				// SAFETY: ids are in range, and mask and scratch have the lengths that the library's call asks.
+				unsafe { plain_mask(ids.as_ptr(), ids.len(), self.mask.as_mut_ptr(), self.scratch.as_mut_ptr(), self.scratch.len()) }
+			}
+			_ => panic!("nothing is called {what}"),
+		}
+	}
+}
