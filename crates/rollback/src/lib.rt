@@ -33,16 +33,17 @@ fn place_of(cell: u32) -> usize
 fn scratch_len(ids: &[u32]) -> usize
     ensures { λ r. ⌜ r ≡ needed (now (ids .entry)) ⌝ }
 {
-    let mut most: usize = 0;
+    // 32 bits: four at a time are compared on every processor
+    let mut most: u32 = 0;
     let mut i: usize = 0;
     while i < ids.len() {
-        let p = place_of(ids[i]);
+        let p = place_of(ids[i]) as u32;
         if most <= p {
             most = p + 1;
         }
         i += 1;
     }
-    most
+    most as usize
 }
 
 fn clear(bytes: &mut [u8])
