@@ -1,7 +1,7 @@
 -- The games of the cases: all fields and cells 0, all marks of a start's own fields set.
 -- Assumes nothing.
 use Prim.Native.Nat.{ℕ}
-use mathlib.Core.List.{List, [], _∷_}
+use mathlib.Core.List.{List, []}
 use lib.ListN.{replicate}
 use Rattle.format.specs.declared.version.Version.{Version}
 use Rattle.frames.specs.Input.{noPort}

@@ -5,7 +5,7 @@ use mathlib.Core.Path.{_≡_, sym, ap, _∙_}
 use mathlib.Core.List.{List}
 use denote.Ref.{RefT, now}
 use Rattle.de.specs.Step.{stepOf}
-use Rattle.de.specs.Walk.{Run, after, turn, run}
+use Rattle.de.specs.Walk.{after, turn, run}
 use Rattle.de.specs.declared.Step.{Step}
 use Rattle.de.specs.declared.Step.the-variants.{Event}
 use Rattle.replay.specs.Value.{heldAt}

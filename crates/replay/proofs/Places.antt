@@ -5,7 +5,7 @@ use mathlib.Core.Path.{_≡_, sym, ap, _∙_}
 use mathlib.Core.List.{List}
 use native.Mathlib.Omega.{arith}
 use lib.ListN.{length, getD, drop, List·getD-eq-default}
-use Rattle.de.specs.Table.{entriesIn, entriesOf, firstOf}
+use Rattle.de.specs.Table.{entriesOf, firstOf}
 use Rattle.de.proofs.Heads.{entries-length}
 
 pub by-size : (f : List ℕ) (n : ℕ) → n ≡ getD f 16 0 → 17 + 3 * (n / 3) ≡ firstOf (entriesOf f)

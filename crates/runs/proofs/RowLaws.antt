@@ -1,7 +1,7 @@
 -- The rows of runs: what the public calls answer, as the numbers of the table.
 -- Assumes nothing.
 use mathlib.Core.Path.{_≡_, refl, sym, ap, subst, _∙_}
-use mathlib.Core.Bool.{Bool, false, cond}
+use mathlib.Core.Bool.{Bool, cond}
 use mathlib.Core.List.{List, [], _∷_, _++_, append-nil}
 use Prim.Native.Nat.{ℕ, zero, suc, _+_, _≤_}
 use native.Mathlib.Omega.{arith}
@@ -30,7 +30,7 @@ use Rattle.rollback.specs.declared.frame.Masked.{Masked}
 use Rattle.rollback.specs.declared.frame.Rollbacks.{Rollbacks}
 use Rattle.rollback.specs.declared.frame.Rollbacks.the-variants.{ExceptFirst, ExceptLast}
 use Rattle.format.specs.FrameId.{placeOf}
-use Rattle.ser.proofs.Outcomes.{Passed, passes, not-refused}
+use Rattle.ser.proofs.Outcomes.{not-refused}
 use Rattle.cases.specs.Table.{numbers, writes, listed, masks, fourIds}
 use Rattle.runs.specs.Rows.{WriteRow}
 use Rattle.runs.specs.declared.row.Row.{Row}

@@ -5,7 +5,6 @@ use mathlib.Core.Path.{sym, _∙_}
 use native.Mathlib.Omega.{arith}
 use borrow.Author.Needs.{needs}
 use lib.ListN.{length}
-use denote.Ref.{now}
 use Rattle.de.proofs.Runs.{kept}
 use Rattle.runs.proofs.CountLaws.{event-ends, Counting, starts, goes-on, ends-here}
 use Rattle.runs.proofs.count.count_code.Statement.{statement}
