@@ -17,6 +17,7 @@ mod generate;
 #[allow(dead_code)]
 #[path = "../../oracle/compare/src/random.rs"]
 mod random;
+mod scattered;
 mod work;
 
 use std::{process::Command, time::Instant};
@@ -46,13 +47,13 @@ fn number(word: &str) -> usize {
 }
 
 /// The best of some runs, in nanoseconds: what other work on the machine adds is left out as far as it can be.
-fn best(work: &mut Work, what: &str) -> f64 {
+fn best(mut work: impl FnMut()) -> f64 {
 	let began = Instant::now();
 	let mut least = f64::INFINITY;
 	let mut runs = 0;
 	while runs < 15 || (runs < 400 && began.elapsed().as_millis() < 300) {
 		let start = Instant::now();
-		work.run(what);
+		work();
 		least = least.min(start.elapsed().as_nanos() as f64);
 		runs += 1;
 	}
@@ -69,10 +70,22 @@ fn times() {
 		let mut work = Work::new(shape);
 		heading(&work, "ns", "MB/s");
 		for what in WHAT {
-			let least = best(&mut work, what);
+			let least = best(|| work.run(what));
 			let speed = if work.moves_file(what) { format!("{:.0}", work.len() as f64 / least * 1e3) } else { String::new() };
 			println!("{what:<34} {:>12.2} {:>12} {speed:>10}", least / work.units(what) as f64, work.unit(what));
 		}
+	}
+	scattered_walk();
+}
+
+/// Events of codes that follow no pattern, which no frame stream has.
+fn scattered_walk() {
+	let file = scattered::file();
+	println!("\nuniformly random codes ({} bytes, {} events)", file.len(), scattered::EVENTS);
+	for (what, walk) in [("walk: libslp", work::walk as fn(&[u8]) -> usize), ("walk: plain C", work::walk_plainly)] {
+		assert_eq!(walk(&file), scattered::EVENTS);
+		let least = best(|| drop(std::hint::black_box(walk(&file))));
+		println!("{what:<34} {:>12.2} {:>12}", least / scattered::EVENTS as f64, "an event");
 	}
 }
 

@@ -28,6 +28,17 @@ extern "C" {
 	fn plain_mask(ids: *const u32, frames: usize, mask: *mut u8, scratch: *mut u8, scratch_len: usize);
 }
 
+/// How many events a file has, by the library.
+pub fn walk(file: &[u8]) -> usize {
+	slp::walk(file).unwrap().events
+}
+
+/// The same by plain C.
+pub fn walk_plainly(file: &[u8]) -> usize {
+	// SAFETY: the file is whole and its table is right, as the library's walk found.
+	unsafe { plain_walk(file.as_ptr(), file.len()) }
+}
+
 pub struct Work {
 	case: Case,
 	rust: Game,
@@ -49,7 +60,7 @@ impl Work {
 		let mut fixed = vec![0; file.len()];
 		assert_eq!(slp::write(&case.game, &case.stores(), &mut fixed), Ok(file.len()));
 		assert!(fixed == file, "the files differ");
-		let events = slp::walk(&file).unwrap().events;
+		let events = walk(&file);
 		let mask = vec![0; case.ids.len()];
 		let scratch = vec![0; slp::scratch_len(&case.ids)];
 		let room = Vec::with_capacity(file.len());
@@ -93,9 +104,8 @@ impl Work {
 			}
 			"write: libslp" => drop(black_box(slp::write(&self.case.game, &self.case.stores(), &mut self.fixed))),
 			"write: copy of the bytes" => self.fixed.copy_from_slice(black_box(&self.file)),
-			"walk: libslp" => drop(black_box(slp::walk(&self.file))),
-			// SAFETY: the file is whole and its table is right, as the library's walk found.
-			"walk: plain C" => drop(black_box(unsafe { plain_walk(self.file.as_ptr(), self.file.len()) })),
+			"walk: libslp" => drop(black_box(walk(&self.file))),
+			"walk: plain C" => drop(black_box(walk_plainly(&self.file))),
 			_ => self.run_mask(what),
 		}
 		black_box((&mut self.fixed, &mut self.mask));
