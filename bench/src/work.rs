@@ -81,11 +81,19 @@ impl Work {
 
 	/// What a number is for: a frame, or an event.
 	pub fn unit(&self, what: &str) -> &'static str {
-		if what.starts_with("walk") { "an event" } else { "a frame" }
+		if what.starts_with("walk") {
+			"an event"
+		} else {
+			"a frame"
+		}
 	}
 
 	pub fn units(&self, what: &str) -> usize {
-		if what.starts_with("walk") { self.events } else { self.case.ids.len() }
+		if what.starts_with("walk") {
+			self.events
+		} else {
+			self.case.ids.len()
+		}
 	}
 
 	pub fn moves_file(&self, what: &str) -> bool {
