@@ -30,7 +30,7 @@ use Rattle.codes.specs.Tail.{tailOf}
 use Rattle.events.specs.Events.{framesEvents}
 use Rattle.events.specs.Length.{framesLength}
 use Rattle.rollback.specs.Mask.{occurs, maskOf, needed, allInRange, answerOf}
-use Rattle.frames.proofs.Accepted.{lowest-before}
+use Rattle.format.proofs.Refusals.{lowest-before}
 use Rattle.layout.proofs.Laws.{both, both-left, both-right}
 use Rattle.de.specs.Table.{declared, startsWith, stopOf, allPresent, entriesIn, entriesOf as readEntries, spanOf, twice as readTwice, tableMissing, unsigned, untabled, headRefusal}
 use Rattle.de.specs.Step.{eventIn, stepIn, stepOf}

@@ -2,45 +2,25 @@
 -- Assumes nothing.
 use mathlib.Core.Path.{_≡_, refl, sym, ap, _∙_}
 use mathlib.Core.Bool.{Bool, true, false, _&&_, _||_}
-use mathlib.Core.List.{List, [], _∷_, _++_, append-nil}
-use Prim.Native.Nat.{ℕ, zero, suc, _+_, _-_, _*_}
+use mathlib.Core.List.{List, [], _∷_, _++_}
+use Prim.Native.Nat.{ℕ, _+_, _-_, _*_}
 use native.Mathlib.Nat.{sub-zero}
 use native.Mathlib.Omega.{arith}
 use lib.ListN.{length, take, drop}
 use borrow.Author.Tests.{eq-eqb, ne-eqb, eqb-true}
 use lib.Dec.{eqb}
-use Rattle.wire.specs.Wire.{be, part, ranged, keep, Room, Wrote}
+use Rattle.wire.specs.Wire.{be, part, ranged, keep}
 use Rattle.wire.proofs.Writers.{Left, left-start}
 use Rattle.format.specs.Version.{gteOf}
 use Rattle.format.specs.Event.{codeOf}
-use Rattle.format.specs.File.{Ev, eventBytes, eventsBytes}
+use Rattle.format.specs.File.{eventBytes, eventsBytes}
 use Rattle.format.specs.declared.version.Version.{Version}
 use Rattle.format.specs.declared.event.Event.the-variants.{GameEnd, GeckoCodes, MessageSplitter}
 use Rattle.format.proofs.Versions.{no-way}
-use Rattle.format.proofs.Files.{events-cons, events-keep}
+use Rattle.format.proofs.Files.{events-cons, events-keep, events-one, events-each}
 use Rattle.codes.specs.Blocks.{blockCount, used, lastFlag, blockEnd, blockOf, blocksOf, codeEvents, codesWrong}
 use Rattle.codes.specs.End.{yes, initiatorBytes, placementsOf, endOf, endEvents, initiatorWrong, endWrong}
 use Rattle.codes.specs.declared.end.End.{End}
-
--- ---- for wire
-
-pub room-byte : {out : List ℕ} {at x y : ℕ} → x ≡ y → Room out at (y ∷ []) → Room out at (x ∷ [])
-room-byte e r = rw e r
-
-pub wrote-as-byte : {before after : List ℕ} {at next x y : ℕ} → x ≡ y → Wrote before after at next (x ∷ []) → Wrote before after at next (y ∷ [])
-wrote-as-byte e w = rw e at w
-
--- ---- for format
-
-pub events-one : (e : Ev) → eventsBytes (e ∷ []) ≡ eventBytes e
-unfolding eventsBytes
-events-one e = append-nil (eventBytes e)
-
--- one event for each number
-pub events-each : (f : ℕ → Ev) (i n : ℕ) → eventsBytes (ranged (λ j. f j ∷ []) i n) ≡ ranged (λ j. eventBytes (f j)) i n
-unfolding eventsBytes ranged
-events-each f i zero = refl
-events-each f i (suc n) = ap (λ (l : List ℕ). eventBytes (f i) ++ l) (events-each f (i + 1) n)
 
 -- ---- code blocks
 
@@ -74,14 +54,6 @@ right-codes v given codes actual w g = go (gteOf v 3 3) refl (eqb (length codes)
     go true x true y = (x, eqb-true (length codes) (512 * blockCount actual) y)
     go true x false y = no-way (sym (rw (g, x, y) at w))
     go false x t y = no-way (sym (rw (g, x) at w))
-
--- ---- marks
-
-pub no-mark : (m : ℕ) → m ≡ 0 → yes m ≡ false
-no-mark m e = rw (eq-eqb m 0 e)
-
-pub a-mark : (m : ℕ) → (m ≡ 0 → ⊥) → yes m ≡ true
-a-mark m h = rw (ne-eqb m 0 h)
 
 -- ---- ends
 

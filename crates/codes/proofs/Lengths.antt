@@ -4,32 +4,23 @@ use mathlib.Core.Path.{_≡_, refl, sym, ap, _∙_}
 use mathlib.Core.Bool.{Bool, true, false, cond}
 use mathlib.Core.Logic.{inl, inr}
 use mathlib.Core.List.{List, [], _∷_, _++_}
-use Prim.Native.Nat.{ℕ, zero, suc, _+_, _*_, _<_}
-use native.Mathlib.Nat.{zero-mul, suc-mul, add-comm}
+use Prim.Native.Nat.{ℕ, suc, _+_, _*_, _<_}
+use native.Mathlib.Nat.{zero-mul}
 use native.Mathlib.Omega.{arith}
 use lib.ListN.{length, length-append, length-take, length-drop}
-use Rattle.wire.specs.Wire.{part, ranged, keep}
-use Rattle.wire.proofs.Laws.{length-be, length-ranged}
+use Rattle.wire.specs.Wire.{part, keep}
+use Rattle.wire.proofs.Laws.{length-be, length-ranged, length-ranged-below, length-kept}
 use Rattle.format.specs.Version.{gteOf}
 use Rattle.format.specs.File.{eventBytes, eventsBytes}
 use Rattle.format.specs.declared.version.Version.{Version}
 use Rattle.format.proofs.Versions.{gte-holds, gte-fails, no-way}
+use Rattle.format.proofs.Files.{events-each}
 use Rattle.layout.specs.Payloads.{endSize}
 use Rattle.codes.specs.Blocks.{blockCount, blockOf, blocksOf, codeEvents}
 use Rattle.codes.specs.End.{yes, initiatorBytes, placementOf, placementsOf, endOf, endEvents, endCount}
 use Rattle.codes.specs.Tail.{metadataOf, tailOf}
 use Rattle.codes.specs.declared.end.End.{End}
-use Rattle.codes.proofs.Laws.{events-each, code-bytes, ends-bytes}
-
--- ---- for wire
-
--- parts of one size, as far as they are taken
-pub length-ranged-below : {A : Type 0} (f : ℕ → List A) (s i n : ℕ) → ((j : ℕ) → j < i + n → length (f j) ≡ s) → length (ranged f i n) ≡ n * s
-unfolding ranged
-length-ranged-below f s i zero h = rw zero-mul
-length-ranged-below f s i (suc n) h =
-    let rest = length-ranged-below f s (i + 1) n (λ j l. h j (omega arith)) in
-    simp (length-append, h i (omega arith), rest, suc-mul) (add-comm s (n * s))
+use Rattle.codes.proofs.Laws.{code-bytes, ends-bytes}
 
 -- ---- code blocks
 
@@ -45,12 +36,8 @@ module _ (codes : List ℕ) (actual : ℕ) (whole : length codes ≡ 512 * block
 
 pub length-codes : (given : Bool) (codes : List ℕ) (actual : ℕ) → (given ≡ true → length codes ≡ 512 * blockCount actual)
     → length (eventsBytes (codeEvents given codes actual)) ≡ cond given (blockCount actual * 517) 0
-unfolding keep
-length-codes given codes actual whole = ap length (code-bytes given codes actual) ∙ go given whole
-  where
-    go : (g : Bool) → (g ≡ true → length codes ≡ 512 * blockCount actual) → length (keep g (eventsBytes (blocksOf codes actual))) ≡ cond g (blockCount actual * 517) 0
-    go true h = length-blocks codes actual (h refl)
-    go false h = refl
+length-codes given codes actual whole =
+    ap length (code-bytes given codes actual) ∙ length-kept given (eventsBytes (blocksOf codes actual)) _ (λ g. length-blocks codes actual (whole g))
 
 -- ---- ends
 
@@ -71,15 +58,10 @@ length-placements : (e : End) → length (placementsOf e) ≡ 4
 unfolding placementsOf
 length-placements e = length-ranged (λ i. placementOf e i ∷ []) 1 (λ j. refl) 0 4
 
-length-kept : (b : Bool) (xs : List ℕ) (n : ℕ) → length xs ≡ n → length (keep b xs) ≡ cond b n 0
-unfolding keep
-length-kept true xs n e = e
-length-kept false xs n e = refl
-
 pub length-end : (v : Version) (e : End) → length (endOf v e .payload) ≡ endSize v
 unfolding endOf endSize
 length-end v e =
-    simp (length-append, length-kept (gteOf v 2 0) (initiatorBytes e) 1 refl, length-kept (gteOf v 3 13) (placementsOf e) 4 (length-placements e))
+    simp (length-append, length-kept (gteOf v 2 0) (initiatorBytes e) 1 (λ t. refl), length-kept (gteOf v 3 13) (placementsOf e) 4 (λ t. length-placements e))
     (go (gteOf v 3 13) refl (gteOf v 2 0) refl)
   where
     go : (s : Bool) → gteOf v 3 13 ≡ s → (t : Bool) → gteOf v 2 0 ≡ t → suc (cond t 1 0 + cond s 4 0) ≡ cond s 6 (cond t 2 1)

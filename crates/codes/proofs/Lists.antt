@@ -3,32 +3,23 @@
 use mathlib.Core.Path.{_≡_, refl, sym, _∙_}
 use mathlib.Core.Bool.{Bool, true}
 use mathlib.Core.List.{List, [], _∷_}
-use Prim.Native.Nat.{ℕ, zero, suc, _+_, _*_, _<_}
+use Prim.Native.Nat.{ℕ, _*_, _<_}
 use native.Mathlib.Omega.{arith}
 use lib.Dec.{lit<}
 use lib.ListN.{length}
-use Rattle.wire.specs.Wire.{ranged, keep}
+use Rattle.wire.specs.Wire.{keep}
 use Rattle.format.specs.Version.{gteOf}
 use Rattle.format.specs.Event.{codeOf}
-use Rattle.format.specs.File.{Entry, Ev, Listed}
+use Rattle.format.specs.File.{Ev, Listed}
 use Rattle.format.specs.declared.version.Version.{Version}
 use Rattle.format.specs.declared.event.Event.the-variants as event
-use Rattle.format.proofs.Files.{listed-append, listed-keep}
+use Rattle.format.proofs.Files.{listed-ranged-below, listed-keep}
 use Rattle.layout.specs.Payloads.{listed, payloadSize, entriesOf}
 use Rattle.layout.proofs.Entries.{Sized, entry-at}
 use Rattle.codes.specs.Blocks.{blockCount, blockOf, blocksOf, codeEvents}
 use Rattle.codes.specs.End.{yes, endOf, endEvents}
 use Rattle.codes.specs.declared.end.End.{End}
 use Rattle.codes.proofs.Lengths.{length-block, length-end}
-
--- ---- for format
-
--- events for a range of numbers, as far as they are taken
-pub listed-ranged-below : (t : List Entry) (f : ℕ → List Ev) (i n : ℕ) → ((j : ℕ) → j < i + n → Listed t (f j)) → Listed t (ranged f i n)
-unfolding Listed ranged
-listed-ranged-below t f i zero h = tt
-listed-ranged-below t f i (suc n) h =
-    listed-append t (f i) (ranged f (i + 1) n) (h i (omega arith)) (listed-ranged-below t f (i + 1) n (λ j l. h j (omega arith)))
 
 module _ (v : Version) (block : ℕ) (given : Bool) (actual : ℕ) where
   -- an event whose code and size are in the table, before others that are listed

@@ -1,24 +1,25 @@
 -- The laws of a file's head: its signature, its payload table and the table's index by code.
 -- Assumes nothing.
 use mathlib.Core.Path.{_≡_, refl, sym, ap, ap₂, _∙_}
-use mathlib.Core.Bool.{Bool, true, false, not, true≢false, _||_, _&&_}
+use mathlib.Core.Bool.{Bool, true, false, not, _||_, _&&_}
 use mathlib.Core.List.{List, [], _∷_}
 use Prim.Native.Nat.{ℕ, zero, suc, _+_, _*_, _-_, _/_, _%_, _≤_, _<_}
-use native.Mathlib.Nat.{add-zero, add-assoc}
+use native.Mathlib.Nat.{add-zero}
 use native.Mathlib.Numerals.{add-one}
 use native.Mathlib.Decide.{ℕ-discrete}
 use native.Mathlib.Omega.{arith}
 use borrow.Author.Tests.{lt-ltb, le-ltb, eq-eqb, ne-eqb, ltb-false, eqb-true, not-false}
-use lib.Dec.{eqb, leb, ltb}
+use lib.Dec.{eqb, ltb}
 use lib.ListN.{length, getD, drop, set, length-set, drop-of-length-le}
 use lib.Seq.{drop-cons, getD-drop, drop-drop, getD-set-same, getD-set-other}
-use Rattle.wire.specs.Wire.{more, number, part, tabulate}
+use Rattle.wire.specs.Wire.{more, number, part}
 use Rattle.wire.proofs.Laws.{tabulate-length, tabulate-at, tabulated, stored}
 use Rattle.format.specs.Event.{signature}
 use Rattle.format.specs.File.{Entry}
 use Rattle.format.proofs.Refusals.{skip, here, none}
+use Rattle.format.proofs.Tests.{or-none}
 use Rattle.de.specs.Table.{startsWith, stopOf, allPresent, entriesIn, entriesOf, firstOf, spanOf, twice, tableMissing, unsigned, untabled, headRefusal, headOffset}
-use Rattle.de.specs.Inner.{listOf, Sound, Indexed, Agree, Ready, HeadOf}
+use Rattle.de.specs.Inner.{listOf, Sound, Indexed, Agree, HeadOf}
 use Rattle.de.specs.declared.head.Head.{Head}
 use Rattle.de.specs.declared.head.Table.{Table}
 
@@ -27,14 +28,6 @@ pub starts-step : (xs ys : List ℕ) (i : ℕ) → i < length xs → i < length 
     → startsWith (drop i xs) (drop i ys) ≡ eqb (getD ys i 0) (getD xs i 0) && startsWith (drop (i + 1) xs) (drop (i + 1) ys)
 unfolding startsWith
 starts-step xs ys i p q = rw (add-one, drop-cons xs i 0, drop-cons ys i 0)
-
--- two bytes as one number
-pub pair-is : (s : List ℕ) (at : ℕ) → at + 1 < length s → getD s at 0 * 256 + getD s (at + 1) 0 ≡ number (part s at 2)
-unfolding more part
-pair-is s at h =
-    let l : at < length s = omega arith in
-    let m : suc at < length s = omega arith in
-    rw (drop-cons s at 0 l, drop-cons s (suc at) 0 m, add-one) (omega arith)
 
 -- ---- the entries of a table
 
@@ -164,17 +157,13 @@ module _ (t : Table) (i c : ℕ) {spans : List ℕ} (g : Once spans t i) (is : c
 
 -- ---- the head and its refusals
 
-or-false : (a b : Bool) → a || b ≡ false → (a ≡ false) × (b ≡ false)
-or-false true b h = absurd (true≢false h)
-or-false false b h = (refl, h)
-
 -- where a table stands
 pub table-there : (f : List ℕ) → tableMissing f ≡ false → (17 ≤ stopOf f) × (getD f 16 0 % 3 ≡ 1) × (16 + getD f 16 0 ≤ stopOf f)
 unfolding tableMissing
 table-there f h =
-    let d = or-false _ _ h in
-    let c = or-false _ _ (d .0) in
-    let b = or-false _ _ (c .0) in
+    let d = or-none _ _ h in
+    let c = or-none _ _ (d .0) in
+    let b = or-none _ _ (c .0) in
     (ltb-false _ _ (b .0), eqb-true _ _ (not-false _ (c .1)), ltb-false _ _ (d .1))
 
 -- where none does: its first two bytes are not there, or its last

@@ -1,18 +1,19 @@
 -- The laws of forms: where a row's cells are, and that records by forms are the definition's events.
 -- Assumes nothing.
 use mathlib.Core.Path.{_≡_, refl, sym, ap, ap₂, subst, _∙_}
-use mathlib.Core.Bool.{Bool, true, false}
-use mathlib.Core.List.{List, [], _∷_, _++_, append-nil}
-use Prim.Native.Nat.{ℕ, zero, suc, _+_, _-_, _*_, _≤_, _<_}
+use mathlib.Core.Bool.{Bool}
+use mathlib.Core.List.{List, [], _∷_}
+use Prim.Native.Nat.{ℕ, suc, _+_, _-_, _*_, _≤_, _<_}
 use native.Mathlib.Nat.{suc-mul, zero-mul, zero-add, mul-le-mul, mul-le-mul-right}
 use native.Mathlib.Numerals.{add-one}
 use native.Mathlib.Omega.{arith}
-use lib.ListN.{length, getD, take}
+use lib.ListN.{length, getD}
 use lib.Seq.{length-take-le}
 use Rattle.wire.specs.Wire.{ranged, keep, Wrote}
+use Rattle.wire.proofs.Laws.{ranged-same}
 use Rattle.wire.proofs.Writers.{wrote-then}
-use Rattle.format.specs.File.{Ev, eventBytes, eventsBytes}
-use Rattle.format.proofs.Files.{events-append, events-ranged, events-keep}
+use Rattle.format.specs.File.{eventBytes, eventsBytes}
+use Rattle.format.proofs.Files.{events-one, events-both, events-ranged, events-keep}
 use Rattle.layout.specs.Columns.{Narrow, hasFamily, widthsOf, sum}
 use Rattle.layout.specs.declared.columns.Family.{Family}
 use Rattle.layout.specs.declared.columns.Family.the-variants.{Pre, Post, FrameStart, Item, FrameEnd, FodPlatform, DreamlandWhispy, StadiumTransformation}
@@ -61,20 +62,6 @@ module _ (m : Form) (cells : List ℕ) where
 
   pub only-in : (r : ℕ) → Stored m cells 1 → r < m .rows → InStore (columnsIn m) (length cells) (m .rows) r
   only-in r s k = rw (zero-mul, zero-add) at (row-in 1 0 r s (omega arith) k)
-
--- ---- for wire: ranges of the same parts
-pub ranged-same : {A : Type 0} (f g : ℕ → List A) (i n : ℕ) → ((j : ℕ) → i ≤ j → j < i + n → f j ≡ g j) → ranged f i n ≡ ranged g i n
-unfolding ranged
-ranged-same f g i zero h = refl
-ranged-same f g i (suc n) h = ap₂ (λ (a b : List _). a ++ b) (h i (omega arith) (omega arith)) (ranged-same f g (i + 1) n (λ j l k. h j (omega arith) (omega arith)))
-
--- ---- for format: the bytes of one event, and of two parts
-pub events-one : (e : Ev) → eventsBytes (e ∷ []) ≡ eventBytes e
-unfolding eventsBytes
-events-one e = append-nil (eventBytes e)
-
-pub events-both : (xs ys : List Ev) {a b : List ℕ} → eventsBytes xs ≡ a → eventsBytes ys ≡ b → eventsBytes (xs ++ ys) ≡ a ++ b
-events-both xs ys p q = events-append xs ys ∙ ap₂ (λ (a b : List ℕ). a ++ b) p q
 
 -- ---- records by a form are the definition's events
 module _ (f : Frames) (lent : Lent) (family : Family) (m : Form) (h : Formed f family m) where

@@ -1,61 +1,25 @@
 -- What is known of an accepted input: from the judge's answer 0, that refusals 1 to 7 do not apply, and what that says of each part.
 -- Assumes nothing.
-use mathlib.Core.Path.{_≡_, refl, sym, ap, _∙_}
-use mathlib.Core.Bool.{Bool, true, false}
-use mathlib.Core.List.{List, [], _∷_, _++_}
-use Prim.Native.Nat.{ℕ, suc, _+_, _≤_, _<_}
-use native.Mathlib.Nat.{add-zero}
-use native.Mathlib.Numerals.{add-one}
-use native.Mathlib.Omega.{arith}
+use mathlib.Core.Path.{_≡_}
+use mathlib.Core.Bool.{false}
+use Prim.Native.Nat.{ℕ, _≤_, _<_}
 use borrow.Author.Tests.{ltb-false, not-false}
 use lib.Dec.{lit<}
-use lib.ListN.{length, getD}
+use lib.ListN.{getD}
 use Rattle.format.specs.Version.{acceptedOf}
 use Rattle.format.specs.Refusal.{lowest}
 use Rattle.format.proofs.Refusals.{passed}
+use Rattle.format.proofs.Tests.{one-passed, rest-each}
 use Rattle.layout.specs.declared.columns.Family.{Family}
 use Rattle.layout.specs.declared.columns.Family.the-variants.{Item}
 use Rattle.frames.specs.Stores.{Lent, Cells, Offsets, offsetFamilies, cellsOf, offsetsOf}
 use Rattle.frames.specs.Judge.{tooMany, exceeds, storesMisfit, cellsExceed, misleads, offsetsMislead, refusals}
 use Rattle.frames.specs.Accepted.{Modest, Stored, Accepted}
 use Rattle.frames.specs.declared.input.Frames.{Frames}
-use Rattle.frames.proofs.Tests.{one-passed, rest-each}
 use Rattle.frames.proofs.CellLaws.{family-none, ids-fit, stores-fit, stored}
 use Rattle.frames.proofs.OffsetLaws.{placed}
 use Rattle.frames.proofs.PresenceLaws.{presence-even, covered}
 use Rattle.frames.proofs.PortLaws.{ported}
-
--- ---- for format: tests that come after others
-suc-zero : (k : ℕ) → suc k ≡ 0 → ⊥
-suc-zero k e = omega arith
-
--- where none of the first holds, the others decide
-pub lowest-after : (k : ℕ) (bs cs : List Bool) → lowest (suc k) bs ≡ 0 → lowest (suc k) (bs ++ cs) ≡ lowest (suc k + length bs) cs
-unfolding lowest
-lowest-after k [] cs e = rw add-zero
-lowest-after k (true ∷ bs) cs e = absurd (suc-zero k e)
-lowest-after k (false ∷ bs) cs e =
-    let next : suc k + 1 ≡ suc (suc k) = add-one (suc k) in
-    let place : suc (suc k) + length bs ≡ suc k + suc (length bs) = omega arith in
-    ap (λ (n : ℕ). lowest n (bs ++ cs)) next
-    ∙ lowest-after (suc k) bs cs (ap (λ (n : ℕ). lowest n bs) (sym next) ∙ e)
-    ∙ ap (λ (n : ℕ). lowest n cs) place
-
--- where one of the first holds, it decides
-pub lowest-before : (k : ℕ) (bs cs : List Bool) → (lowest k bs ≡ 0 → ⊥) → lowest k (bs ++ cs) ≡ lowest k bs
-unfolding lowest
-lowest-before k [] cs h = absurd (h refl)
-lowest-before k (true ∷ bs) cs h = refl
-lowest-before k (false ∷ bs) cs h = lowest-before (k + 1) bs cs h
-
--- where none holds, none of the first does
-pub lowest-first : (k : ℕ) (bs cs : List Bool) → lowest (suc k) (bs ++ cs) ≡ 0 → lowest (suc k) bs ≡ 0
-unfolding lowest
-lowest-first k [] cs e = refl
-lowest-first k (true ∷ bs) cs e = e
-lowest-first k (false ∷ bs) cs e =
-    let next : suc k + 1 ≡ suc (suc k) = add-one (suc k) in
-    ap (λ (n : ℕ). lowest n bs) next ∙ lowest-first (suc k) bs cs (ap (λ (n : ℕ). lowest n (bs ++ cs)) (sym next) ∙ e)
 
 -- ---- 2: the counts, and the bytes of codes and metadata
 pub counted : (f : Frames) (codes metadata : ℕ) → tooMany f codes metadata ≡ false → Modest f × (codes ≤ 16777216) × (metadata ≤ 65535)

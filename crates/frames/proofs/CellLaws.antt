@@ -22,12 +22,12 @@ use Rattle.layout.specs.declared.columns.Family.{Family}
 use Rattle.layout.specs.declared.columns.Family.the-variants.{Pre, Post, FrameStart, Item, FrameEnd, FodPlatform, DreamlandWhispy, StadiumTransformation}
 use Rattle.layout.specs.declared.plan.Plan.{Plan}
 use Rattle.format.specs.declared.version.Version.{Version}
+use Rattle.format.proofs.Tests.{or-none, one-append, one-passed, rest-each}
 use Rattle.frames.specs.Input.{rowsOf, blocksOf}
 use Rattle.frames.specs.Stores.{Cells, families, cellsOf}
 use Rattle.frames.specs.Judge.{oneOf, misfits, storesMisfit, over, columnsExceed, blocksExceed, exceeds}
 use Rattle.frames.specs.Accepted.{Modest, Stored, runWidths, Whole}
 use Rattle.frames.specs.declared.input.Frames.{Frames}
-use Rattle.frames.proofs.Tests.{or-none, one-append, one-passed, rest-each}
 
 -- ---- the bits of many cells as one number
 or-most : (a b : ℕ) → (a ≤ bitOr a b) × (b ≤ bitOr a b)

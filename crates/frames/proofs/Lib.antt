@@ -1,4 +1,3 @@
-pub mod Tests
 pub mod SlotLaws
 pub mod PresenceLaws
 pub mod PortLaws

@@ -12,13 +12,13 @@ use native.Mathlib.Decide.{decLt}
 use lib.Dec.{ltb, eqb}
 use lib.ListN.{length, getD, drop, drop-of-length-le}
 use lib.Seq.{drop-cons}
+use Rattle.format.proofs.Tests.{same-of, or-none, one-or, one-last, one-passed}
 use Rattle.layout.specs.Columns.{hasFamily}
 use Rattle.layout.specs.declared.columns.Family.{Family}
 use Rattle.frames.specs.Input.{rowsOf}
 use Rattle.frames.specs.Judge.{falls, strays, given, misleads}
 use Rattle.frames.specs.Accepted.{Ranges, Placed}
 use Rattle.frames.specs.declared.input.Frames.{Frames}
-use Rattle.frames.proofs.Tests.{same-of, or-none, one-or, one-last, one-passed}
 
 -- ---- a fall, in a loop: r is what is left to find from the offset before index i on
 falls-step : (os : List ℕ) (j : ℕ) → j + 1 < length os → falls (drop j os) ≡ (ltb (getD os (j + 1) 0) (getD os j 0) || falls (drop (j + 1) os))

@@ -10,13 +10,13 @@ use borrow.Author.Tests.{eq-eqb, ne-eqb, eqb-false, ltb-false}
 use lib.Dec.{eqb, ltb}
 use lib.ListN.{length, getD, drop, length-map, drop-of-length-le, List·getD-map}
 use lib.Seq.{drop-cons}
+use Rattle.format.proofs.Tests.{or-none, one-here, one-skip, one-last, one-passed, rest-each}
 use Rattle.layout.specs.Columns.{sum}
 use Rattle.frames.specs.Input.{noPort, portsOf, follows}
 use Rattle.frames.specs.Judge.{oneOf, uneven, portUneven, portNumbers, twice, portsWrong}
 use Rattle.frames.specs.Accepted.{Ported}
 use Rattle.frames.specs.declared.input.PortColumn.{PortColumn}
 use Rattle.frames.specs.declared.input.Frames.{Frames}
-use Rattle.frames.proofs.Tests.{or-none, one-here, one-skip, one-last, one-passed, rest-each}
 use Rattle.frames.proofs.SlotLaws.{length-ports, port-at}
 
 -- ---- presence bytes

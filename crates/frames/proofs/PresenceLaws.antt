@@ -16,6 +16,7 @@ use lib.Count.{ones, ones-step, ones-cat}
 use lib.Pow.{mod-pow-add, pow-pos}
 use Rattle.wire.specs.Wire.{keep}
 use Rattle.wire.proofs.Laws.{tabulate-length, tabulate-at}
+use Rattle.format.proofs.Tests.{one-passed}
 use Rattle.layout.specs.Columns.{sum}
 use Rattle.frames.specs.Input.{Slot, slot, noSlot, portsOf, follows, portSlots, portBytes, slotsFrom, slotsOf, slotIn, slotsIn, Slotted}
 use Rattle.frames.specs.Presence.{marked, countFrom, presentAt, presentIn, playersPresent, Covers}
@@ -23,7 +24,6 @@ use Rattle.frames.specs.Judge.{oneOf, portUneven, portsUneven, presenceW
 use Rattle.frames.specs.declared.input.PortColumn.{PortColumn}
 use Rattle.frames.specs.declared.input.Frames.{Frames}
 use Rattle.frames.specs.declared.slots.Slots.{Slots}
-use Rattle.frames.proofs.Tests.{one-passed}
 use Rattle.frames.proofs.SlotLaws.{even-leader, even-follower, bytes-leader, slots-few}
 
 -- ---- counting frames that pass a test

@@ -3,7 +3,7 @@
 use mathlib.Core.Path.{_≡_, refl, sym, ap, ap₂, _∙_}
 use mathlib.Core.Bool.{Bool, true, false, not, cond}
 use mathlib.Core.List.{List, [], _∷_, _++_, append-assoc, append-nil}
-use Prim.Native.Nat.{ℕ, zero, suc, _+_, _*_, _/_, _≤_, _<_, min}
+use Prim.Native.Nat.{ℕ, _+_, _*_, _/_, _≤_, _<_, min}
 use native.Mathlib.Nat.{add-assoc, add-zero}
 use native.Mathlib.Numerals.{add-one}
 use native.Mathlib.Omega.{arith}
@@ -13,11 +13,12 @@ use mathlib.Core.Logic.{_⊎_, inl, inr}
 use lib.ListN.{length, getD, set, drop, length-append, length-set, drop-of-length-le}
 use lib.Seq.{drop-cons, getD-set-same, getD-set-other}
 use Rattle.wire.specs.Wire.{keep, tabulate}
-use Rattle.wire.proofs.Laws.{tabulate-length, tabulate-at}
+use Rattle.wire.proofs.Laws.{tabulate-length, tabulate-at, tabulate-suc, tabulate-ext}
+use Rattle.format.proofs.Versions.{no-way}
+use Rattle.format.proofs.Tests.{one-passed, rest-each}
 use Rattle.frames.specs.Input.{noPort, portsOf, follows, Slot, slot, portSlots, portBytes, slotsFrom, slotsOf, slotIn, slotsIn, Eight, Grown}
 use Rattle.frames.specs.Judge.{uneven, portUneven, portsUneven}
 use Rattle.frames.specs.Accepted.{Modest}
-use Rattle.frames.proofs.Tests.{false-true, one-passed, rest-each}
 use Rattle.frames.specs.declared.input.PortColumn.{PortColumn}
 use Rattle.frames.specs.declared.input.Frames.{Frames}
 use Rattle.frames.specs.declared.slots.Slots.{Slots}
@@ -57,16 +58,6 @@ pushed-other s x k h =
     let at = getD-set-other (s .at) (s .count) k (x .at) 0 other in
     let len = getD-set-other (s .len) (s .count) k (x .len) 0 other in
     λ i. record { port = port i; follower = follower i; at = at i; len = len i }
-
-tabulate-ext : {A : Type 0} (n : ℕ) (f g : ℕ → A) → ((k : ℕ) → k < n → f k ≡ g k) → tabulate n f ≡ tabulate n g
-unfolding tabulate
-tabulate-ext zero f g h = refl
-tabulate-ext {A} (suc n) f g h =
-    ap₂ (λ (l : List A) (x : A). l ++ (x ∷ [])) (tabulate-ext n f g (λ k l. h k (omega arith))) (h n (omega arith))
-
-tabulate-suc : {A : Type 0} (n : ℕ) (f : ℕ → A) → tabulate (n + 1) f ≡ tabulate n f ++ (f n ∷ [])
-unfolding tabulate
-tabulate-suc n f = rw add-one
 
 pub grown-one : (s : Slots) (x : Slot) → s .count < 8 → Eight s → Grown s (pushed s x) (x ∷ [])
 grown-one s x h e = record {
@@ -199,7 +190,7 @@ even-len frames len e = go (eqb len 0) refl (eqb len ((frames + 7) / 8)) refl
     go : (a : Bool) → eqb len 0 ≡ a → (b : Bool) → eqb len ((frames + 7) / 8) ≡ b → (len ≡ 0) ⊎ (len ≡ (frames + 7) / 8)
     go true x b y = inl (eqb-true len 0 x)
     go false x true y = inr (eqb-true len ((frames + 7) / 8) y)
-    go false x false y = false-true (sym (rw (x, y) at e))
+    go false x false y = no-way (sym (rw (x, y) at e))
 
 module _ (frames : ℕ) (p : PortColumn) (e : portUneven frames p ≡ false) where
   pub even-leader : (p .«leader_presence» ≡ 0) ⊎ (p .«leader_presence» ≡ (frames + 7) / 8)

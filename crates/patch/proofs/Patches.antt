@@ -1,34 +1,19 @@
 -- The laws of patches.
 -- Assumes nothing.
 use mathlib.Core.Path.{_≡_, refl, sym, ap, _∙_}
-use mathlib.Core.Bool.{Bool, true, false, cond}
+use mathlib.Core.Bool.{Bool, true, false}
 use mathlib.Core.List.{List, [], _∷_, _++_}
 use Prim.Native.Nat.{ℕ, zero, suc, _+_, _-_, _≤_, _<_}
 use native.Mathlib.Omega.{arith}
 use native.Mathlib.Numerals.{add-one}
 use lib.ListN.{length, take, drop, getD, replicate, drop-of-length-le}
-use lib.Seq.{drop-cons, length-take-le}
-use Rattle.wire.specs.Wire.{be, splice, keep, Room, Wrote}
-use Rattle.wire.proofs.Laws.{length-be, length-splice}
+use lib.Seq.{drop-cons}
+use Rattle.wire.specs.Wire.{be, splice, keep, Wrote}
+use Rattle.wire.proofs.Laws.{length-splice}
 use Rattle.wire.proofs.Writers.{wrote-then, wrote-as}
 use Rattle.patch.specs.Patch.{Patch, patch, patched, Patched, numbers, Fit}
 use Rattle.patch.specs.Field.{text, filled}
 use Rattle.start.specs.declared.game.Text.{Text}
-
--- ---- for wire: room for a number, and the first elements of a list
-pub room-number : (out : List ℕ) (at w v : ℕ) → at + w ≤ length out → Room out at (be w v)
-room-number out at w v h = record { fits = rw length-be h }
-
-take-replicate : (m n a : ℕ) → m ≤ n → take m (replicate n a) ≡ replicate m a
-take-replicate zero n a h = refl
-take-replicate (suc m) zero a h = absurd (omega arith)
-take-replicate (suc m) (suc n) a h = ap (λ l. a ∷ l) (take-replicate m n a (omega arith))
-
-pub room-first-of : (out xs : List ℕ) (at n : ℕ) → n ≤ length xs → at + n ≤ length out → Room out at (take n xs)
-room-first-of out xs at n h r = record { fits = rw (length-take-le n xs h) r }
-
-pub wrote-first-of : {a b : List ℕ} {at next : ℕ} (xs : List ℕ) (n : ℕ) → n ≤ length xs → Wrote a b at next (take n xs) → next ≡ at + n
-wrote-first-of {at = at} xs n h w = w .next-is ∙ ap (λ k. at + k) (length-take-le n xs h)
 
 -- ---- patches
 pub length-patched : (block : List ℕ) (ps : List Patch) → length (patched block ps) ≡ length block
@@ -63,12 +48,6 @@ patched-off a ps on g asked e = rw (sym asked ∙ e) (record { after-is = refl }
 pub same-long : {a b : List ℕ} {ps : List Patch} → Patched a b ps → length b ≡ length a
 same-long {a} {ps = ps} p = ap length (p .after-is) ∙ length-patched a ps
 
--- a byte that is written only where a test holds: its width is 1 or 0
-pub byte-if : {w : ℕ} (on : Bool) (x : ℕ) → w ≡ cond on 1 0 → keep on (be 1 x) ≡ be w x
-unfolding keep be
-byte-if true x e = rw e
-byte-if false x e = rw e
-
 -- ---- a table of numbers
 pub record InRoom (n at j : ℕ) (os ws vs : List ℕ) : Type 0 where
   pub width : j < length ws
@@ -102,6 +81,11 @@ module _ (at : ℕ) (os ws vs : List ℕ) (j : ℕ) where
   numbers-done h left = rw (drop-of-length-le os h) at left
 
 -- ---- a text, and zeros after it
+take-replicate : (m n a : ℕ) → m ≤ n → take m (replicate n a) ≡ replicate m a
+take-replicate zero n a h = refl
+take-replicate (suc m) zero a h = absurd (omega arith)
+take-replicate (suc m) (suc n) a h = ap (λ l. a ∷ l) (take-replicate m n a (omega arith))
+
 pub wrote-filled : {a b c : List ℕ} {at mid next : ℕ} (t : Text) (width n : ℕ) → width - t .len ≤ n
     → Wrote a b at mid (take (t .len) (t .bytes)) → Wrote b c mid next (take (width - t .len) (replicate n 0)) → Wrote a c at next (filled width t)
 unfolding filled

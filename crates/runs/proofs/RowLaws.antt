@@ -12,9 +12,7 @@ use lib.Seq.{take-append-le, drop-append-le}
 use Rattle.wire.specs.Wire.{number, part, splice, keep, tabulate}
 use Rattle.wire.proofs.Laws.{splice-is}
 use Rattle.format.specs.Refusal.{lowest}
-use Rattle.format.proofs.Refusals.{passed}
-use Rattle.frames.specs.Judge.{refusals}
-use Rattle.frames.proofs.Accepted.{lowest-first, lowest-after}
+use Rattle.format.proofs.Refusals.{passed, lowest-first, lowest-after}
 use Rattle.de.specs.Table.{declared}
 use Rattle.de.specs.Walk.{walkOf}
 use Rattle.de.specs.Numbers.{walkNumbers}
@@ -30,7 +28,7 @@ use Rattle.rollback.specs.declared.frame.Masked.{Masked}
 use Rattle.rollback.specs.declared.frame.Rollbacks.{Rollbacks}
 use Rattle.rollback.specs.declared.frame.Rollbacks.the-variants.{ExceptFirst, ExceptLast}
 use Rattle.format.specs.FrameId.{placeOf}
-use Rattle.ser.proofs.Outcomes.{not-refused}
+use Rattle.ser.proofs.Outcomes.{not-refused, eleven}
 use Rattle.cases.specs.Table.{numbers, writes, listed, masks, fourIds}
 use Rattle.runs.specs.Rows.{WriteRow}
 use Rattle.runs.specs.declared.row.Row.{Row}
@@ -69,10 +67,6 @@ is-refused zero m n e = let z = ap kind e in absurd (omega arith)
 is-refused (suc k) m n e = (ap value e, λ z. omega arith)
 
 -- a file that is not refused has room
-eleven : (g : Game) (s : Stores) → 1 + length (judged g s) ≡ 12
-unfolding judged refusals
-eleven g s = refl
-
 fits : (g : Game) (s : Stores) (room : ℕ) → refusal g s room ≡ 0 → length (file g s) ≤ room
 unfolding refusal
 fits g s room e =

@@ -1,8 +1,8 @@
 -- The laws of judging a game.
 -- Assumes nothing.
 use mathlib.Core.Path.{_≡_, refl, sym, ap, ap₂, _∙_}
-use mathlib.Core.Bool.{Bool, true, false, cond, not}
-use mathlib.Core.List.{List, [], _∷_, _++_}
+use mathlib.Core.Bool.{Bool, true}
+use mathlib.Core.List.{List, _++_}
 use Prim.Native.Nat.{ℕ, _+_, _≤_, _<_}
 use native.Mathlib.Omega.{arith}
 use borrow.Author.Tests.{lt-ltb, le-ltb, eq-eqb, ne-eqb}
@@ -13,7 +13,7 @@ use Rattle.format.specs.declared.version.Version.{Version}
 use Rattle.frames.specs.Judge.{refusals}
 use Rattle.frames.specs.Stores.{Lent}
 use Rattle.frames.specs.declared.input.Frames.{Frames}
-use Rattle.frames.proofs.Accepted.{lowest-after, lowest-before}
+use Rattle.format.proofs.Refusals.{lowest-after, lowest-before}
 use Rattle.codes.specs.Blocks.{codesWrong}
 use Rattle.start.specs.Length.{lengthOf}
 use Rattle.ser.specs.Write.{givenBytes, blockBad}

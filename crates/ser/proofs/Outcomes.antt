@@ -1,37 +1,35 @@
 -- What the judge's answer says of a game, and what the writer answers.
 -- Assumes nothing.
-use mathlib.Core.Path.{_≡_, refl, sym, ap, ap₂, _∙_}
-use mathlib.Core.Bool.{Bool, true, false, cond, _||_}
+use mathlib.Core.Path.{_≡_, refl, sym, ap, _∙_}
+use mathlib.Core.Bool.{Bool, true, false, cond}
 use mathlib.Core.List.{List, [], _∷_, _++_}
 use Prim.Native.Nat.{ℕ, zero, suc, _+_, _*_, _≤_, _<_}
-use native.Mathlib.Nat.{suc-mul, zero-mul, mul-le-mul}
+use native.Mathlib.Nat.{suc-mul, zero-mul}
 use native.Mathlib.Omega.{arith}
 use borrow.Author.Tests.{lt-ltb, le-ltb, ltb-false}
 use lib.Dec.{ltb}
 use lib.ListN.{length, length-append}
-use Rattle.wire.specs.Wire.{be, splice, Room, Wrote}
+use Rattle.wire.specs.Wire.{Wrote}
 use Rattle.wire.proofs.Laws.{length-be}
-use Rattle.format.specs.Event.{signature}
 use Rattle.format.specs.File.{tableBytes, eventsBytes, fileOf}
 use Rattle.format.specs.Mark.{yes}
 use Rattle.format.specs.Refusal.{lowest}
 use Rattle.format.specs.declared.version.Version.{Version}
-use Rattle.format.proofs.Refusals.{here, skip, none, passed}
-use Rattle.frames.specs.Input.{Slot, slotsOf}
+use Rattle.format.proofs.Refusals.{here, skip, none, passed, lowest-after, lowest-first}
+use Rattle.format.proofs.Tests.{or-none}
+use Rattle.frames.specs.Input.{Slot}
 use Rattle.frames.specs.Judge.{refusals}
-use Rattle.frames.specs.Presence.{countFrom, presentAt, playersPresent}
+use Rattle.frames.specs.Presence.{presentAt, playersPresent}
 use Rattle.frames.specs.Accepted.{Accepted}
-use Rattle.frames.proofs.Accepted.{lowest-after, lowest-first, accepted, few-bytes}
+use Rattle.frames.proofs.Accepted.{accepted, few-bytes}
 use Rattle.frames.proofs.PresenceLaws.{count-most}
 use Rattle.start.specs.Length.{lengthOf}
 use Rattle.start.specs.Refusal.{badStart}
-use Rattle.codes.specs.Blocks.{blockCount, codesWrong}
+use Rattle.codes.specs.Blocks.{codesWrong}
 use Rattle.codes.specs.End.{endWrong}
 use Rattle.codes.specs.Tail.{tailOf}
-use Rattle.codes.proofs.Laws.{right-codes}
 use Rattle.codes.proofs.Lengths.{length-tail}
 use Rattle.ser.specs.declared.game.Game.{Game}
-use Rattle.ser.specs.declared.game.Written.{Written}
 use Rattle.ser.specs.declared.game.Written.the-variants.{File, Refused}
 use Rattle.ser.specs.Write.{Stores, givenBytes, blockBad, entries, events, file, judged, refusal, answered, left, Outcome}
 use Rattle.ser.proofs.Laws.{stopped, went-on, seven}
@@ -76,13 +74,9 @@ pub not-refused : (g : Game) (s : Stores) (room : ℕ) → refusal g s room ≡ 
 unfolding refusal
 not-refused g s room e = passes g s (lowest-first 0 (judged g s) _ e)
 
-or-false : (a b : Bool) → (a || b) ≡ false → (a ≡ false) × (b ≡ false)
-or-false true b e = let z : _≡_ {A = ℕ} 0 1 = cc in absurd (omega arith)
-or-false false b e = (refl, e)
-
 pub block-fits : (v : Version) (n : ℕ) → blockBad v n ≡ false → (lengthOf v ≤ n) × (n ≤ 65535)
 unfolding blockBad
-block-fits v n e = let (a, b) = or-false (ltb n (lengthOf v)) (ltb 65535 n) e in (ltb-false n (lengthOf v) a, ltb-false 65535 n b)
+block-fits v n e = let (a, b) = or-none (ltb n (lengthOf v)) (ltb 65535 n) e in (ltb-false n (lengthOf v) a, ltb-false 65535 n b)
 
 -- no more players than slots in each frame
 pub players-most : (bits : List ℕ) (ss : List Slot) (n : ℕ) → playersPresent bits ss n ≤ length ss * n
@@ -110,7 +104,7 @@ refused-as : (k m : ℕ) (out f : List ℕ) → (k ≡ 0 → ⊥) → (answered 
 refused-as zero m out f h = absurd (h refl)
 refused-as (suc k) m out f h = (refl, refl)
 
-eleven : (g : Game) (s : Stores) → 1 + length (judged g s) ≡ 12
+pub eleven : (g : Game) (s : Stores) → 1 + length (judged g s) ≡ 12
 unfolding judged refusals
 eleven g s = refl
 

@@ -1,16 +1,17 @@
 -- The laws of the tests that refuse a start.
 -- Assumes nothing.
 use mathlib.Core.Path.{_≡_, refl, sym, _∙_}
-use mathlib.Core.Bool.{Bool, true, false, _&&_, _||_}
+use mathlib.Core.Bool.{Bool, true, false, _&&_}
 use mathlib.Core.List.{List, [], _∷_, map}
 use Prim.Native.Nat.{ℕ, zero, suc, _+_, _≤_, _<_}
 use native.Mathlib.Numerals.{add-one}
 use lib.Dec.{ltb, eqb}
-use lib.ListN.{length, getD, drop, drop-of-length-le}
+use lib.ListN.{length, getD, drop}
 use lib.Seq.{drop-cons}
 use borrow.Author.Tests.{ltb-false, lt-ltb, le-ltb, eq-eqb, ne-eqb}
 use Rattle.format.specs.Version.{gteOf}
 use Rattle.format.specs.declared.version.Version.{Version}
+use Rattle.format.proofs.Tests.{one-last, one-passed}
 use Rattle.start.specs.Refusal.{yes, oneOf, tooLong, textTooLong, badSeat, badStart}
 use Rattle.start.specs.declared.game.Text.{Text}
 use Rattle.start.specs.declared.game.Seat.{Seat}
@@ -25,11 +26,6 @@ module _ (on b : Bool) (bs : List Bool) (asked : on ≡ b) where
   pub one-later : (r : Bool) → on ≡ false → r ≡ oneOf bs → r ≡ oneOf (b ∷ bs)
   unfolding oneOf
   one-later r e h = rw (sym asked ∙ e) h
-
-pub one-last : (on b : Bool) → on ≡ b → on ≡ oneOf (b ∷ [])
-unfolding oneOf
-one-last true b e = rw (← e)
-one-last false b e = rw (← e)
 
 pub one-above : (a b : ℕ) (bs : List Bool) → a < b → true ≡ oneOf (ltb a b ∷ bs)
 one-above a b bs h = one-here true (ltb a b) bs (sym (lt-ltb a b h)) refl
@@ -58,34 +54,7 @@ given-on m r b e h = rw (ne-eqb m 0 e) h
 pub given-off : (m : ℕ) (b : Bool) → m ≡ 0 → false ≡ (yes m && b)
 given-off m b e = rw (eq-eqb m 0 e)
 
-pub is-given : (m : ℕ) → (m ≡ 0 → ⊥) → yes m ≡ true
-is-given m e = rw (ne-eqb m 0 e)
-
-pub not-given : (m : ℕ) → m ≡ 0 → yes m ≡ false
-not-given m e = rw (eq-eqb m 0 e)
-
--- ---- a loop that asks the elements of a list, one by one
-module _ {A : Type 0} (f : A → Bool) (xs : List A) (n : ℕ) (r : Bool) (left : oneOf (map f (drop n xs)) ≡ r) where
-  each-next : (d : A) → n < length xs → f (getD xs n d) || oneOf (map f (drop (n + 1) xs)) ≡ r
-  unfolding oneOf
-  each-next d h = rw add-one (rw (drop-cons xs n d h) at left)
-
-  pub each-here : (d : A) → n < length xs → (on : Bool) → on ≡ f (getD xs n d) → on ≡ true → true ≡ r
-  each-here d h on e t = rw (sym e ∙ t) at (each-next d h)
-
-  pub each-later : (d : A) → n < length xs → (on : Bool) → on ≡ f (getD xs n d) → on ≡ false → oneOf (map f (drop (n + 1) xs)) ≡ r
-  each-later d h on e t = rw (sym e ∙ t) at (each-next d h)
-
-  pub each-done : length xs ≤ n → false ≡ r
-  unfolding oneOf
-  each-done h = rw (drop-of-length-le xs h) at left
-
 -- ---- what is known of a start that is not refused
-
-pub none-of : (b : Bool) (bs : List Bool) → oneOf (b ∷ bs) ≡ false → (b ≡ false) × (oneOf bs ≡ false)
-unfolding oneOf
-none-of true bs e = (e, cc)
-none-of false bs e = (refl, e)
 
 unasked : (a b : Bool) → (a && b) ≡ false → a ≡ true → b ≡ false
 unasked true b e h = e
@@ -105,28 +74,28 @@ pub record Short (v : Version) (p : Seat) : Type 0 where
 pub short-texts : (v : Version) (p : Seat) → textTooLong v p ≡ false → Short v p
 unfolding textTooLong
 short-texts v p e =
-    let a = none-of _ _ e in
-    let b = none-of _ _ (a .1) in
-    let c = none-of _ _ (b .1) in
-    let d = none-of _ _ (c .1) in
+    let a = one-passed _ _ e in
+    let b = one-passed _ _ (a .1) in
+    let c = one-passed _ _ (b .1) in
+    let d = one-passed _ _ (c .1) in
     record { tag = short-text v 1 3 16 _ (a .0); name = short-text v 3 9 30 _ (b .0); code = short-text v 3 9 9 _ (c .0); suid = short-text v 3 11 28 _ (d .0) }
 
 pub seat-texts : (v : Version) (p : Seat) → badSeat v p ≡ false → yes (p .given) ≡ true → textTooLong v p ≡ false
 unfolding badSeat
 seat-texts v p e on =
-    let a = none-of _ _ (unasked (yes (p .given)) _ e on) in
-    let b = none-of _ _ (a .1) in
-    let c = none-of _ _ (b .1) in
-    none-of _ _ (c .1) .0
+    let a = one-passed _ _ (unasked (yes (p .given)) _ e on) in
+    let b = one-passed _ _ (a .1) in
+    let c = one-passed _ _ (b .1) in
+    one-passed _ _ (c .1) .0
 
 -- an element of a list, and those after it
 pub none-at : {A : Type 0} (f : A → Bool) (d : A) (xs : List A) (n : ℕ) → n < length xs → oneOf (map f (drop n xs)) ≡ false → f (getD xs n d) ≡ false
-none-at f d xs n h e = none-of _ _ (rw (drop-cons xs n d h) at e) .0
+none-at f d xs n h e = one-passed _ _ (rw (drop-cons xs n d h) at e) .0
 
 none-past : {A : Type 0} (f : A → Bool) (xs : List A) (n : ℕ) → oneOf (map f (drop n xs)) ≡ false → oneOf (map f (drop (suc n) xs)) ≡ false
 unfolding oneOf
 none-past f [] n e = refl
-none-past f (x ∷ xs) zero e = none-of (f x) (map f xs) e .1
+none-past f (x ∷ xs) zero e = one-passed (f x) (map f xs) e .1
 none-past f (x ∷ xs) (suc n) e = none-past f xs n e
 
 pub none-later : {A : Type 0} (f : A → Bool) (xs : List A) (n : ℕ) → oneOf (map f (drop n xs)) ≡ false → oneOf (map f (drop (n + 1) xs)) ≡ false
@@ -135,10 +104,10 @@ none-later f xs n e = rw add-one (none-past f xs n e)
 pub good-start : (v : Version) (s : Start) → badStart v s ≡ false → (oneOf (map (badSeat v) (s .seats)) ≡ false) × (tooLong v 3 14 50 (s .«match_info» .id) ≡ false)
 unfolding badStart
 good-start v s e =
-    let a = none-of _ _ e in
-    let b = none-of _ _ (a .1) in
-    let c = none-of _ _ (b .1) in
-    let d = none-of _ _ (c .1) in
-    let f = none-of _ _ (d .1) in
-    let g = none-of _ _ (f .1) in
-    (a .0, none-of _ _ (g .1) .0)
+    let a = one-passed _ _ e in
+    let b = one-passed _ _ (a .1) in
+    let c = one-passed _ _ (b .1) in
+    let d = one-passed _ _ (c .1) in
+    let f = one-passed _ _ (d .1) in
+    let g = one-passed _ _ (f .1) in
+    (a .0, one-passed _ _ (g .1) .0)

@@ -5,13 +5,12 @@ use mathlib.Core.List.{List, _++_}
 use Prim.Native.Nat.{ℕ, _+_, _-_, _≤_}
 use lib.ListN.{length, take, drop}
 use Rattle.wire.specs.Wire.{Room, Wrote}
-use Rattle.wire.proofs.Writers.{wrote-as}
+use Rattle.wire.proofs.Writers.{wrote-as, part-is, part-again}
 use Rattle.format.specs.declared.version.Version.{Version}
 use Rattle.start.specs.declared.game.Start.{Start}
 use Rattle.patch.specs.Patch.{patched, Patched}
 use Rattle.start_block.specs.Block.{fields, blockOf}
 use Rattle.patch.proofs.Patches.{length-patched}
-use Rattle.start_block.proofs.Parts.{part-is, part-again}
 
 module _ (v : Version) (s : Start) where
   -- the block is as long as its template

@@ -1,4 +1,3 @@
 pub mod Seats
-pub mod Parts
 pub mod Blocks
 pub mod Cases

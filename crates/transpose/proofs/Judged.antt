@@ -7,6 +7,7 @@ use native.Mathlib.Omega.{arith}
 use borrow.Author.Tests.{leb-false}
 use lib.Dec.{leb, lit<}
 use Rattle.format.specs.Refusal.{lowest}
+use Rattle.format.proofs.Tests.{or-none}
 use Rattle.layout.specs.declared.columns.Family.{Family}
 use Rattle.layout.specs.declared.columns.Family.the-variants.{Pre, Post, FrameStart, FrameEnd}
 use Rattle.frames.specs.Accepted.{Accepted}
@@ -15,7 +16,6 @@ use Rattle.frames.specs.Judge.{refusals}
 use Rattle.frames.specs.Stores.{Lent, cellsOf}
 use Rattle.frames.specs.declared.input.Frames.{Frames}
 use Rattle.frames.proofs.Accepted.{accepted}
-use Rattle.frames.proofs.Tests.{or-none}
 use Rattle.transpose.specs.Judge.{orElse, outside, refusal}
 use Rattle.transpose.specs.Records.{Reachable}
 use Rattle.transpose.specs.Frame.{Showable}

@@ -1,14 +1,14 @@
 -- The laws of `be`, `number`, `splice`, `part`, `ranged`, `keep` and `tabulate`. Those of `splice` have no side condition: what goes past the end is dropped.
 -- Assumes nothing.
-use mathlib.Core.Path.{_≡_, refl, sym, ap, _∙_}
-use mathlib.Core.Bool.{Bool, true, false}
+use mathlib.Core.Path.{_≡_, refl, sym, ap, ap₂, _∙_}
+use mathlib.Core.Bool.{Bool, true, false, cond}
 use mathlib.Core.List.{List, [], _∷_, _++_, append-assoc}
 use Prim.Native.Nat.{ℕ, zero, suc, _+_, _-_, _*_, _/_, _%_, _^_, _≤_, _<_}
-use native.Mathlib.Nat.{add-zero, add-comm, suc-mul, div-one, add-suc, suc-add, mul-suc, mul-one, mod-one, mod-eq-of-lt, add-mul, mul-assoc, add-assoc, zero-mul, zero-add, sub-zero, sub-eq-zero-of-le, pow-suc, pow-succ', pow-le-pow-right, one-le-pow, lt-of-lt-of-le}
+use native.Mathlib.Nat.{add-zero, add-comm, suc-mul, add-suc, suc-add, mul-suc, mul-one, mod-one, mod-eq-of-lt, add-mul, mul-assoc, add-assoc, zero-mul, zero-add, sub-zero, sub-eq-zero-of-le, pow-suc, pow-succ', pow-le-pow-right, one-le-pow, lt-of-lt-of-le}
 use lib.Arith.{mod-mul, digits-lt}
 use lib.Dec.{lit<}
 use lib.Pow.{pow-add}
-use native.Mathlib.Numerals.{add-one, add-two, add-three, sub-one}
+use native.Mathlib.Numerals.{add-one, sub-one}
 use native.Mathlib.Omega.{arith}
 use lib.ListN.{length, take, drop, set, getD, length-set, length-append, List·getD-append}
 use lib.Seq.{sets, sets-eq, set-comm, set-set, drop-cons, drop-at, length-take-le, take-append-seam, ext-getD, getD-at, getD-set-same, getD-set-other}
@@ -111,11 +111,34 @@ pow-8 (suc w) = rw (mul-suc, pow-add 2 (8 * w) 8, pow-suc 256 w, pow-8 w)
 pub rest-step : (i : ℕ) (src : List ℕ) → i < length src → drop i src ≡ (getD src i 0 ∷ []) ++ drop (i + 1) src
 rest-step i src h = rw (drop-cons src i 0 h, add-one)
 
--- parts of one size
-pub length-ranged : {A : Type 0} (f : ℕ → List A) (s : ℕ) → ((j : ℕ) → length (f j) ≡ s) → (i n : ℕ) → length (ranged f i n) ≡ n * s
+-- parts of one size, as far as they are taken, and all of them
+pub length-ranged-below : {A : Type 0} (f : ℕ → List A) (s i n : ℕ) → ((j : ℕ) → j < i + n → length (f j) ≡ s) → length (ranged f i n) ≡ n * s
 unfolding ranged
-length-ranged f s h i zero = rw zero-mul
-length-ranged f s h i (suc n) = simp (length-append, h, length-ranged f s h (i + 1) n, suc-mul) (add-comm s (n * s))
+length-ranged-below f s i zero h = rw zero-mul
+length-ranged-below f s i (suc n) h =
+    let rest = length-ranged-below f s (i + 1) n (λ j l. h j (omega arith)) in
+    simp (length-append, h i (omega arith), rest, suc-mul) (add-comm s (n * s))
+
+pub length-ranged : {A : Type 0} (f : ℕ → List A) (s : ℕ) → ((j : ℕ) → length (f j) ≡ s) → (i n : ℕ) → length (ranged f i n) ≡ n * s
+length-ranged f s h i n = length-ranged-below f s i n (λ j l. h j)
+
+-- ranges of the same parts
+pub ranged-same : {A : Type 0} (f g : ℕ → List A) (i n : ℕ) → ((j : ℕ) → i ≤ j → j < i + n → f j ≡ g j) → ranged f i n ≡ ranged g i n
+unfolding ranged
+ranged-same f g i zero h = refl
+ranged-same f g i (suc n) h = ap₂ (λ (a b : List _). a ++ b) (h i (omega arith) (omega arith)) (ranged-same f g (i + 1) n (λ j l k. h j (omega arith) (omega arith)))
+
+-- what is kept where a test holds
+pub length-kept : {A : Type 0} (b : Bool) (xs : List A) (n : ℕ) → (b ≡ true → length xs ≡ n) → length (keep b xs) ≡ cond b n 0
+unfolding keep
+length-kept true xs n h = h refl
+length-kept false xs n h = refl
+
+-- a byte that is kept only where a test holds: its width is 1 or 0
+pub byte-if : {w : ℕ} (on : Bool) (x : ℕ) → w ≡ cond on 1 0 → keep on (be 1 x) ≡ be w x
+unfolding keep be
+byte-if true x e = rw e
+byte-if false x e = rw e
 
 -- ---- reading back
 
@@ -151,6 +174,14 @@ get-small n i h k = lt-of-lt-of-le h (pow-le-pow-right {n = 256} (lit< tt) {i = 
 pub get-more : (n i b : ℕ) → n < 256 ^ i → b < 256 → n * 256 + b < 256 ^ (i + 1)
 get-more n i b h k = rw (add-one, pow-suc) (digits-lt h k)
 
+-- two bytes as one number
+pub pair-is : (s : List ℕ) (at : ℕ) → at + 1 < length s → getD s at 0 * 256 + getD s (at + 1) 0 ≡ number (part s at 2)
+unfolding more part
+pair-is s at h =
+    let l : at < length s = omega arith in
+    let m : suc at < length s = omega arith in
+    rw (drop-cons s at 0 l, drop-cons s (suc at) 0 m, add-one) (omega arith)
+
 -- what was put is there, with room
 pub part-splice : (xs : List ℕ) (at : ℕ) (ys : List ℕ) → at + length ys ≤ length xs → part (splice xs at ys) at (length ys) ≡ ys
 unfolding part
@@ -177,6 +208,15 @@ module _ {A : Type 0} where
         | yes l ↦ List·getD-append (tabulate n f) (f n ∷ []) d k (omega (arith, tabulate-length n f)) ∙ tabulate-at d n f k l
         | no r ↦ let e : k ≡ n = omega arith in getD-at (tabulate n f) (f n) [] d k (omega (arith, tabulate-length n f)) ∙ ap f (sym e)
       ]
+
+  pub tabulate-suc : (n : ℕ) (f : ℕ → A) → tabulate (n + 1) f ≡ tabulate n f ++ (f n ∷ [])
+  unfolding tabulate
+  tabulate-suc n f = rw add-one
+
+  pub tabulate-ext : (n : ℕ) (f g : ℕ → A) → ((k : ℕ) → k < n → f k ≡ g k) → tabulate n f ≡ tabulate n g
+  unfolding tabulate
+  tabulate-ext zero f g h = refl
+  tabulate-ext (suc n) f g h = ap₂ (λ (l : List A) (x : A). l ++ (x ∷ [])) (tabulate-ext n f g (λ k l. h k (omega arith))) (h n (omega arith))
 
   -- a list whose elements are f's is the table
   pub tabulated : (d : A) (l : List A) (n : ℕ) (f : ℕ → A) → length l ≡ n → ((k : ℕ) → k < n → getD l k d ≡ f k) → l ≡ tabulate n f

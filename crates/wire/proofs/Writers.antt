@@ -3,14 +3,14 @@
 use mathlib.Core.Path.{_≡_, refl, sym, ap, ap₂, _∙_}
 use mathlib.Core.Bool.{Bool, true, false}
 use mathlib.Core.List.{List, [], _∷_, _++_}
-use Prim.Native.Nat.{ℕ, zero, suc, _+_, _-_, _*_, _/_, _%_, _≤_, _<_}
+use Prim.Native.Nat.{ℕ, suc, _+_, _-_, _/_, _%_, _≤_, _<_}
 use native.Mathlib.Nat.{add-zero, add-assoc, div-one, sub-zero, sub-eq-zero-of-le}
 use native.Mathlib.Numerals.{add-one, add-two, add-three}
 use native.Mathlib.Omega.{arith}
 use lib.ListN.{length, set, take, drop, length-append, length-drop, take-append-drop}
-use lib.Seq.{length-take-le}
+use lib.Seq.{take-at, drop-at, length-take-le}
 use Rattle.wire.specs.Wire.{be, splice, ranged, keep, Room, Wrote}
-use Rattle.wire.proofs.Laws.{splice-nil, length-splice, splice-append, splice-behind, length-be, be-low}
+use Rattle.wire.proofs.Laws.{splice-nil, length-splice, splice-append, splice-is, splice-behind, length-be, be-low}
 
 module _ {before middle after : List ℕ} {at mid next : ℕ} {xs ys : List ℕ} where
   -- one writer after another
@@ -25,6 +25,12 @@ wrote-as e w = rw e at w
 
 pub room-as : {out : List ℕ} {at : ℕ} {xs ys : List ℕ} → xs ≡ ys → Room out at xs → Room out at ys
 room-as e r = rw e at r
+
+pub wrote-as-byte : {before after : List ℕ} {at next x y : ℕ} → x ≡ y → Wrote before after at next (x ∷ []) → Wrote before after at next (y ∷ [])
+wrote-as-byte e w = rw e at w
+
+pub room-byte : {out : List ℕ} {at x y : ℕ} → x ≡ y → Room out at (y ∷ []) → Room out at (x ∷ [])
+room-byte e r = rw e r
 
 pub wrote-width : {before after : List ℕ} {at next w k : ℕ} (v : ℕ) → w ≡ k → Wrote before after at next (be k v) → Wrote before after at next (be w v)
 wrote-width v e x = rw (← e) at x
@@ -140,6 +146,16 @@ wrote-4 xs at v = record { next-is = refl; after-is = rw (div-one v, add-one, ad
 pub room-be : {out : List ℕ} {at : ℕ} (w v : ℕ) → Room out at (be w v) → at + w ≤ length out
 room-be w v r = rw length-be at (r .fits)
 
+pub room-number : (out : List ℕ) (at w v : ℕ) → at + w ≤ length out → Room out at (be w v)
+room-number out at w v h = record { fits = rw length-be h }
+
+-- the first n elements of a list
+pub room-first-of : (out xs : List ℕ) (at n : ℕ) → n ≤ length xs → at + n ≤ length out → Room out at (take n xs)
+room-first-of out xs at n h r = record { fits = rw (length-take-le n xs h) r }
+
+pub wrote-first-of : {a b : List ℕ} {at next : ℕ} (xs : List ℕ) (n : ℕ) → n ≤ length xs → Wrote a b at next (take n xs) → next ≡ at + n
+wrote-first-of {at = at} xs n h w = w .next-is ∙ ap (λ k. at + k) (length-take-le n xs h)
+
 -- a byte is its number's lowest, and a number's only byte
 be-one : (v : ℕ) → be 1 v ≡ v % 256 ∷ []
 unfolding be
@@ -176,3 +192,27 @@ module _ (f : ℕ → List ℕ) (i b : ℕ) where
 
 pub range-start : (f : ℕ → List ℕ) (n : ℕ) {first : List ℕ} {at : ℕ} → Left first at (ranged f 0 n) first at (ranged f 0 (n - 0))
 range-start f n = rw (sub-zero n) left-start
+
+-- ---- a part of an output that was written, lent and written again
+module _ {out mid : List ℕ} {at next : ℕ} {xs : List ℕ} (room : Room out at xs) (w : Wrote out mid at next xs) where
+  mid-is : mid ≡ take at out ++ (xs ++ drop (at + length xs) out)
+  mid-is = w .after-is ∙ splice-is out at xs (room .fits)
+
+  front : length (take at out) ≡ at
+  front = length-take-le at out (omega (arith, room .fits))
+
+  count : length xs ≡ next - at
+  count = omega (arith, w .next-is)
+
+  -- the part that was written holds what was written
+  pub part-is : take (next - at) (drop at mid) ≡ xs
+  part-is = rw (mid-is, drop-at (take at out) (xs ++ drop (at + length xs) out) at front) (take-at xs (drop (at + length xs) out) (next - at) count)
+
+  -- and what stands there afterwards, if it is as long, was written in its place
+  pub part-again : (ys : List ℕ) → length ys ≡ length xs → Wrote out (take at mid ++ (ys ++ drop (next - at) (drop at mid))) at next ys
+  part-again ys e = record {
+    next-is = w .next-is ∙ ap (λ n. at + n) (sym e);
+    after-is =
+        rw (mid-is, take-at (take at out) (xs ++ drop (at + length xs) out) at front, drop-at (take at out) (xs ++ drop (at + length xs) out) at front, drop-at xs (drop (at + length xs) out) (next - at) count, ← e)
+        (sym (splice-is out at ys (rw e (room .fits))));
+  }

@@ -3,7 +3,7 @@
 use mathlib.Core.Path.{sym}
 use lib.Seq.{length-take-le}
 use borrow.Author.Needs.{needs}
-use Rattle.patch.proofs.Patches.{room-first-of, wrote-first-of}
+use Rattle.wire.proofs.Writers.{room-first-of, wrote-first-of}
 use Rattle.patch.proofs.put_first.Statement.{statement}
 use Rattle.patch.proofs.put_first.Tie as tie
 

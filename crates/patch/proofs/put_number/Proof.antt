@@ -2,7 +2,8 @@
 -- Assumes nothing.
 use mathlib.Core.Path.{sym, _∙_}
 use borrow.Author.Needs.{needs}
-use Rattle.patch.proofs.Patches.{room-number, patched-one, patched-on, patched-off}
+use Rattle.wire.proofs.Writers.{room-number}
+use Rattle.patch.proofs.Patches.{patched-one, patched-on, patched-off}
 use Rattle.patch.proofs.put_number.Statement.{statement}
 use Rattle.patch.proofs.put_number.Tie as tie
 

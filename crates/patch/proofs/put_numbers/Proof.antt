@@ -4,8 +4,9 @@ use mathlib.Core.Path.{_≡_, refl}
 use Prim.Native.Nat.{_-_, _≤_}
 use native.Mathlib.Omega.{arith}
 use lib.ListN.{length, drop}
+use Rattle.wire.proofs.Writers.{room-number}
 use Rattle.patch.specs.Patch.{patched, numbers}
-use Rattle.patch.proofs.Patches.{fit-at, room-number, numbers-step, numbers-done}
+use Rattle.patch.proofs.Patches.{fit-at, numbers-step, numbers-done}
 use Rattle.patch.proofs.put_numbers.Statement.{statement}
 use Rattle.patch.proofs.put_numbers.Tie as tie
 

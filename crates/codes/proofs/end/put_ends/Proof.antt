@@ -3,7 +3,8 @@
 use mathlib.Core.Path.{sym}
 use borrow.Author.Needs.{needs}
 use Rattle.wire.proofs.Writers.{room-as, room-first, room-second, room-kept, wrote-as, wrote-then, wrote-kept, wrote-none}
-use Rattle.codes.proofs.Laws.{no-mark, a-mark, ends-bytes}
+use Rattle.format.proofs.Tests.{no-mark, a-mark}
+use Rattle.codes.proofs.Laws.{ends-bytes}
 use Rattle.codes.proofs.end.put_ends.Statement.{statement}
 use Rattle.codes.proofs.end.put_ends.Tie as tie
 

@@ -4,9 +4,8 @@ use mathlib.Core.List.{[], _∷_}
 use Prim.Native.Nat.{_-_, _≤_}
 use native.Mathlib.Omega.{arith}
 use Rattle.wire.specs.Wire.{ranged}
-use Rattle.wire.proofs.Writers.{Left, left-start, range-room, range-step, range-done}
+use Rattle.wire.proofs.Writers.{Left, left-start, range-room, range-step, range-done, room-byte, wrote-as-byte}
 use Rattle.codes.specs.End.{placementOf, placementsOf}
-use Rattle.codes.proofs.Laws.{room-byte, wrote-as-byte}
 use Rattle.codes.proofs.end.put_four.Statement.{statement}
 use Rattle.codes.proofs.end.put_four.Tie as tie
 

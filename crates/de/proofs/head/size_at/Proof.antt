@@ -3,7 +3,7 @@
 use borrow.Author.Needs.{needs}
 use native.Mathlib.Omega.{arith}
 use denote.Ref.{now}
-use Rattle.de.proofs.Heads.{pair-is}
+use Rattle.wire.proofs.Laws.{pair-is}
 use Rattle.de.proofs.head.size_at.Statement.{statement}
 use Rattle.de.proofs.head.size_at.Tie as tie
 

@@ -1,8 +1,8 @@
 -- `frames::judge::too_many` meets its contract.
 -- Assumes nothing.
 use mathlib.Core.Path.{refl}
+use Rattle.format.proofs.Tests.{one-or, one-last}
 use Rattle.frames.specs.Judge.{tooMany}
-use Rattle.frames.proofs.Tests.{one-or, one-last}
 use Rattle.frames.proofs.judge.too_many.Statement.{statement}
 use Rattle.frames.proofs.judge.too_many.Tie as tie
 

@@ -1,8 +1,8 @@
 -- `frames::offsets::offsets_mislead` meets its contract.
 -- Assumes nothing.
 use borrow.Author.Needs.{needs}
+use Rattle.format.proofs.Tests.{one-or, one-last}
 use Rattle.frames.specs.Judge.{offsetsMislead}
-use Rattle.frames.proofs.Tests.{one-or, one-last}
 use Rattle.frames.proofs.offsets.offsets_mislead.Statement.{statement}
 use Rattle.frames.proofs.offsets.offsets_mislead.Tie as tie
 

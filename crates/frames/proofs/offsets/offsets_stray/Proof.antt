@@ -3,8 +3,8 @@
 use mathlib.Core.Path.{refl, sym, _∙_}
 use native.Mathlib.Omega.{arith}
 use borrow.Author.Needs.{needs}
+use Rattle.format.proofs.Tests.{other, same, one-here, one-skip, one-last}
 use Rattle.frames.specs.Judge.{strays}
-use Rattle.frames.proofs.Tests.{other, same, one-here, one-skip, one-last}
 use Rattle.frames.proofs.offsets.offsets_stray.Statement.{statement}
 use Rattle.frames.proofs.offsets.offsets_stray.Tie as tie
 

@@ -5,9 +5,9 @@ use mathlib.Core.List.{map}
 use Prim.Native.Nat.{_-_, _≤_}
 use native.Mathlib.Omega.{arith}
 use lib.ListN.{drop}
+use Rattle.format.proofs.Tests.{tested, rest-here, rest-skip, rest-none}
 use Rattle.frames.specs.Input.{noPort, portsOf}
 use Rattle.frames.specs.Judge.{oneOf, portUneven, portsUneven}
-use Rattle.frames.proofs.Tests.{tested, rest-here, rest-skip, rest-none}
 use Rattle.frames.proofs.ports.are_ports_uneven.Statement.{statement}
 use Rattle.frames.proofs.ports.are_ports_uneven.Tie as tie
 
@@ -46,7 +46,7 @@ loop-again c =
     (omega arith, rest-skip noPort _ _ _ (l .loop .k) (omega arith) (tested (portUneven _) (t .before .port .ensures) (t .is-port-uneven .ensures) (c .if1 .left)) (l .loop .inv .1))
 
 returns-2 : tie.Need-returns-2 Inv-loop μ-loop
-returns-2 c = rest-none noPort _ _ _ (c .before .loop .k) (omega arith) (c .before .loop .inv .1)
+returns-2 c = rest-none _ _ _ (c .before .loop .k) (omega arith) (c .before .loop .inv .1)
 
 pub are-ports-uneven-spec : {M : Type 1} → statement M
 are-ports-uneven-spec =

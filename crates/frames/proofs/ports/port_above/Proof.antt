@@ -7,8 +7,8 @@ use native.Mathlib.Omega.{arith}
 use borrow.Author.Tests.{lt-ltb, le-ltb}
 use lib.Dec.{ltb}
 use lib.ListN.{drop}
+use Rattle.format.proofs.Tests.{rest-here, rest-skip, rest-none}
 use Rattle.frames.specs.Judge.{oneOf, portNumbers}
-use Rattle.frames.proofs.Tests.{rest-here, rest-skip, rest-none}
 use Rattle.frames.proofs.PortLaws.{length-numbers}
 use Rattle.frames.proofs.ports.port_above.Statement.{statement}
 use Rattle.frames.proofs.ports.port_above.Tie as tie
@@ -44,7 +44,7 @@ loop-again c =
     (omega arith, rest-skip 0 (ltb 3) _ _ (l .loop .k) (omega (arith, length-numbers (l .before .before .args .f))) (sym (ap (ltb 3) (t .port-number .ensures)) ∙ le-ltb 3 _ (c .if1 .left)) (l .loop .inv .1))
 
 returns-2 : tie.Need-returns-2 Inv-loop μ-loop
-returns-2 c = rest-none 0 (ltb 3) _ _ (c .before .loop .k) (omega (arith, length-numbers (c .before .before .before .args .f))) (c .before .loop .inv .1)
+returns-2 c = rest-none (ltb 3) _ _ (c .before .loop .k) (omega (arith, length-numbers (c .before .before .before .args .f))) (c .before .loop .inv .1)
 
 pub port-above-spec : {M : Type 1} → statement M
 port-above-spec =

@@ -7,8 +7,8 @@ use native.Mathlib.Omega.{arith}
 use borrow.Author.Tests.{eq-eqb, ne-eqb}
 use lib.Dec.{eqb}
 use lib.ListN.{drop}
+use Rattle.format.proofs.Tests.{rest-here, rest-skip, rest-none}
 use Rattle.frames.specs.Judge.{oneOf, portNumbers}
-use Rattle.frames.proofs.Tests.{rest-here, rest-skip, rest-none}
 use Rattle.frames.proofs.PortLaws.{length-numbers}
 use Rattle.frames.proofs.ports.port_again.Statement.{statement}
 use Rattle.frames.proofs.ports.port_again.Tie as tie
@@ -44,7 +44,7 @@ loop-again c =
     rest-skip 0 (eqb _) _ _ (l .loop .j) (omega (arith, length-numbers (l .before .before .args .f))) (ne-eqb _ _ (λ e. c .if1 .left (e ∙ sym (t .port-number .ensures)))) (l .loop .inv)
 
 returns-2 : tie.Need-returns-2 Inv-loop μ-loop
-returns-2 c = rest-none 0 (eqb _) _ _ (c .before .loop .j) (omega (arith, length-numbers (c .before .before .before .args .f))) (c .before .loop .inv)
+returns-2 c = rest-none (eqb _) _ _ (c .before .loop .j) (omega (arith, length-numbers (c .before .before .before .args .f))) (c .before .loop .inv)
 
 pub port-again-spec : {M : Type 1} → statement M
 port-again-spec =

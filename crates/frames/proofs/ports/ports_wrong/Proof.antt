@@ -2,8 +2,8 @@
 -- Assumes nothing.
 use mathlib.Core.Path.{sym, _∙_}
 use borrow.Author.Tests.{lt-ltb, le-ltb}
+use Rattle.format.proofs.Tests.{one-here, one-skip, one-last}
 use Rattle.frames.specs.Judge.{portsWrong}
-use Rattle.frames.proofs.Tests.{one-here, one-skip, one-last}
 use Rattle.frames.proofs.ports.ports_wrong.Statement.{statement}
 use Rattle.frames.proofs.ports.ports_wrong.Tie as tie
 

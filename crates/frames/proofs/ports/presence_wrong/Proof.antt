@@ -5,8 +5,8 @@ use mathlib.Core.Bool.{not}
 use Prim.Native.Nat.{ℕ}
 use lib.Dec.{eqb}
 use lib.ListN.{length}
+use Rattle.format.proofs.Tests.{one-here, one-skip, one-last}
 use Rattle.frames.specs.Judge.{presenceWrong}
-use Rattle.frames.proofs.Tests.{one-here, one-skip, one-last}
 use Rattle.frames.proofs.ports.presence_wrong.Statement.{statement}
 use Rattle.frames.proofs.ports.presence_wrong.Tie as tie
 

@@ -1,8 +1,8 @@
 -- `frames::stores::stores_misfit` meets its contract.
 -- Assumes nothing.
 use mathlib.Core.Path.{refl}
+use Rattle.format.proofs.Tests.{one-or, one-last}
 use Rattle.frames.specs.Judge.{storesMisfit}
-use Rattle.frames.proofs.Tests.{one-or, one-last}
 use Rattle.frames.proofs.stores.stores_misfit.Statement.{statement}
 use Rattle.frames.proofs.stores.stores_misfit.Tie as tie
 

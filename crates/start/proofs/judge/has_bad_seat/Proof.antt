@@ -1,17 +1,17 @@
 -- `start::judge::has_bad_seat` meets its contract: the seats that are left answer for all.
 -- Assumes nothing.
-use mathlib.Core.Path.{_≡_, refl}
+use mathlib.Core.Path.{_≡_, refl, sym, _∙_}
 use mathlib.Core.List.{map}
 use Prim.Native.Nat.{_-_, _≤_}
 use native.Mathlib.Omega.{arith}
 use lib.ListN.{drop}
+use Rattle.format.proofs.Tests.{rest-here, rest-skip, rest-none}
 use Rattle.start.specs.Refusal.{oneOf, badSeat}
-use Rattle.start.proofs.Refusals.{each-here, each-later, each-done}
 use Rattle.start.proofs.judge.has_bad_seat.Statement.{statement}
 use Rattle.start.proofs.judge.has_bad_seat.Tie as tie
 
 abbrev Inv-loop : tie.InvT-loop
-Inv-loop v seats n₀ n = (n ≤ 4) × (oneOf (map (badSeat v) (drop n seats)) ≡ oneOf (map (badSeat v) seats))
+Inv-loop v seats n₀ n = (n ≤ 4) × (oneOf (map (badSeat v) seats) ≡ oneOf (map (badSeat v) (drop n seats)))
 
 abbrev μ-loop : tie.MeasureT-loop
 μ-loop v seats n₀ n = 4 - n
@@ -31,7 +31,7 @@ is-bad-seat-requires c κs = tt
 returns : tie.Need-returns Inv-loop μ-loop
 returns c =
     let l = c .before .before .before .before .loop in
-    each-here _ _ (l .n) _ (l .inv .1) _ (omega arith) _ (c .before .is-bad-seat .ensures) (c .if1 .taken)
+    rest-here _ _ _ _ (l .n) (omega arith) (sym (c .before .is-bad-seat .ensures) ∙ c .if1 .taken) (l .inv .1)
 
 add-n : tie.Need-add-n Inv-loop μ-loop
 add-n c = omega arith
@@ -42,10 +42,10 @@ loop-less c = omega arith
 loop-again : tie.Need-loop-again Inv-loop μ-loop
 loop-again c =
     let l = c .before .before .before .before .loop in
-    (omega arith, each-later _ _ (l .n) _ (l .inv .1) _ (omega arith) _ (c .before .is-bad-seat .ensures) (c .if1 .left))
+    (omega arith, rest-skip _ _ _ _ (l .n) (omega arith) (sym (c .before .is-bad-seat .ensures) ∙ c .if1 .left) (l .inv .1))
 
 returns-2 : tie.Need-returns-2 Inv-loop μ-loop
-returns-2 c = each-done _ _ (c .before .loop .n) _ (c .before .loop .inv .1) (omega arith)
+returns-2 c = rest-none _ _ _ (c .before .loop .n) (omega arith) (c .before .loop .inv .1)
 
 pub has-bad-seat-spec : {M : Type 1} → statement M
 has-bad-seat-spec =

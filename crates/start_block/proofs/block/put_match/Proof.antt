@@ -3,10 +3,10 @@
 use mathlib.Core.Path.{sym, _∙_}
 use native.Mathlib.Omega.{arith}
 use borrow.Author.Needs.{needs}
-use Rattle.wire.proofs.Writers.{wrote-as}
+use Rattle.wire.proofs.Writers.{wrote-as, room-number}
 use Rattle.start_block.specs.Block.{matchFields}
 use Rattle.start.proofs.Lengths.{long-enough}
-use Rattle.patch.proofs.Patches.{room-number, patched-then, patched-one, patched-on, patched-off, ended}
+use Rattle.patch.proofs.Patches.{patched-then, patched-one, patched-on, patched-off, ended}
 use Rattle.start.proofs.Refusals.{short-text}
 use Rattle.start_block.proofs.block.put_match.Statement.{statement}
 use Rattle.start_block.proofs.block.put_match.Tie as tie

@@ -2,8 +2,8 @@
 -- Assumes nothing.
 use native.Mathlib.Omega.{arith}
 use borrow.Author.Needs.{needs}
+use Rattle.wire.proofs.Laws.{byte-if}
 use Rattle.patch.specs.Patch.{numbers, Fit}
-use Rattle.patch.proofs.Patches.{byte-if}
 use Rattle.start_block.specs.Block.{playerFields}
 use Rattle.start_block.proofs.seat.put_player.Statement.{statement}
 use Rattle.start_block.proofs.seat.put_player.Tie as tie

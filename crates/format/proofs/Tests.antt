@@ -1,4 +1,4 @@
--- The laws of `oneOf`: one line for each test that a function passes or stops at, in a row or in a loop, and what is known where none holds.
+-- The laws of tests, of marks and of `oneOf`: one line for each test that a function passes or stops at, in a row or in a loop, and what is known where none holds.
 -- Assumes nothing.
 use mathlib.Core.Path.{_≡_, refl, sym, ap, _∙_}
 use mathlib.Core.Bool.{Bool, true, false, not, _||_}
@@ -10,10 +10,9 @@ use borrow.Author.Tests.{eq-eqb, ne-eqb, eqb-true, not-false}
 use lib.Dec.{eqb}
 use lib.ListN.{length, getD, drop, drop-of-length-le}
 use lib.Seq.{drop-cons}
-use Rattle.frames.specs.Judge.{oneOf}
-
-pub false-true {ℓ} : {A : Type ℓ} → false ≡ true → A
-false-true p = let z : _≡_ {A = ℕ} 0 1 = cc in absurd (omega arith)
+use Rattle.format.specs.Mark.{yes}
+use Rattle.format.specs.Refusal.{oneOf}
+use Rattle.format.proofs.Versions.{no-way}
 
 -- a test for another number
 pub other : (a b : ℕ) → (a ≡ b → ⊥) → not (eqb a b) ≡ true
@@ -24,6 +23,13 @@ same a b e = rw (eq-eqb a b e)
 
 pub same-of : (a b : ℕ) → not (eqb a b) ≡ false → a ≡ b
 same-of a b e = eqb-true a b (not-false (eqb a b) e)
+
+-- marks
+pub a-mark : (m : ℕ) → (m ≡ 0 → ⊥) → yes m ≡ true
+a-mark m h = rw (ne-eqb m 0 h)
+
+pub no-mark : (m : ℕ) → m ≡ 0 → yes m ≡ false
+no-mark m e = rw (eq-eqb m 0 e)
 
 -- tests in a row
 pub one-here : (b : Bool) (bs : List Bool) → b ≡ true → true ≡ oneOf (b ∷ bs)
@@ -51,11 +57,11 @@ one-or t b r bs e h = rw (e, h)
 
 pub one-passed : (b : Bool) (bs : List Bool) → oneOf (b ∷ bs) ≡ false → (b ≡ false) × (oneOf bs ≡ false)
 unfolding oneOf
-one-passed true bs e = false-true (sym e)
+one-passed true bs e = no-way (sym e)
 one-passed false bs e = (refl, e)
 
 pub or-none : (a b : Bool) → (a || b) ≡ false → (a ≡ false) × (b ≡ false)
-or-none true b e = false-true (sym e)
+or-none true b e = no-way (sym e)
 or-none false b e = (refl, e)
 
 pub one-append : (xs ys : List Bool) → oneOf (xs ++ ys) ≡ (oneOf xs || oneOf ys)
@@ -78,11 +84,12 @@ module _ {A : Type 0} (d : A) (p : A → Bool) where
   unfolding oneOf
   rest-skip r xs k h e q = rw add-one (rw (drop-cons xs k d h, e) at q)
 
-  pub rest-none : (r : Bool) (xs : List A) (k : ℕ) → length xs ≤ k → r ≡ oneOf (map p (drop k xs)) → false ≡ r
-  unfolding oneOf
-  rest-none r xs k h q = sym (rw (drop-of-length-le xs h) at q)
-
   pub rest-each : (xs : List A) → oneOf (map p xs) ≡ false → (k : ℕ) → k < length xs → p (getD xs k d) ≡ false
   rest-each [] e k h = absurd (omega arith)
   rest-each (x ∷ xs) e zero h = one-passed (p x) (map p xs) e .0
   rest-each (x ∷ xs) e (suc k) h = rest-each xs (one-passed (p x) (map p xs) e .1) k (omega arith)
+
+-- and at its end
+pub rest-none : {A : Type 0} (p : A → Bool) (r : Bool) (xs : List A) (k : ℕ) → length xs ≤ k → r ≡ oneOf (map p (drop k xs)) → false ≡ r
+unfolding oneOf
+rest-none p r xs k h q = sym (rw (drop-of-length-le xs h) at q)
