@@ -84,7 +84,9 @@ fn scattered_walk() {
 	println!("\nuniformly random codes ({} bytes, {} events)", file.len(), scattered::EVENTS);
 	for (what, walk) in [("walk: libslp", work::walk as fn(&[u8]) -> usize), ("walk: plain C", work::walk_plainly)] {
 		assert_eq!(walk(&file), scattered::EVENTS);
-		let least = best(|| drop(std::hint::black_box(walk(&file))));
+		let least = best(|| {
+			std::hint::black_box(walk(&file));
+		});
 		println!("{what:<34} {:>12.2} {:>12}", least / scattered::EVENTS as f64, "an event");
 	}
 }

@@ -112,8 +112,12 @@ impl Work {
 			}
 			"write: libslp" => drop(black_box(slp::write(&self.case.game, &self.case.stores(), &mut self.fixed))),
 			"write: copy of the bytes" => self.fixed.copy_from_slice(black_box(&self.file)),
-			"walk: libslp" => drop(black_box(walk(&self.file))),
-			"walk: plain C" => drop(black_box(walk_plainly(&self.file))),
+			"walk: libslp" => {
+				black_box(walk(&self.file));
+			}
+			"walk: plain C" => {
+				black_box(walk_plainly(&self.file));
+			}
 			_ => self.run_mask(what),
 		}
 		black_box((&mut self.fixed, &mut self.mask));

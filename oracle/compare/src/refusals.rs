@@ -66,6 +66,11 @@ fn rich() -> Case {
 	of_version((3, 18), fits)
 }
 
+/// A game with four port columns.
+fn four_ports() -> Case {
+	of_version((3, 18), |case: &Case| case.game.frames.port_count == 4 && case.ids.len() == 9)
+}
+
 /// Whether the last slot's player is there in every frame.
 fn always_there(case: &Case) -> bool {
 	let frames = &case.game.frames;
@@ -183,6 +188,13 @@ fn cells_lines() -> Vec<Line> {
 			c.pres.extend_from_within(..pre);
 			c.posts.extend_from_within(..post);
 		}),
+		apart(
+			7,
+			"five port columns",
+			&four_ports(),
+			|c| c.game.frames.port_count = 5,
+			|g| g.frames.ports.extend(adapt::frames(&four_ports()).ports.into_iter().take(1)),
+		),
 		cannot(7, "port 4", &base, |c| c.game.frames.ports[0].port = 4),
 	]
 }
