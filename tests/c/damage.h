@@ -1,4 +1,4 @@
-/* Damage by chance: what a game or a file has after it is anything. */
+/* Damage: by chance, after which a game or a file is anything, and for one refusal. */
 #ifndef DAMAGE_H
 #define DAMAGE_H
 
@@ -6,6 +6,8 @@
 
 /* One change somewhere in a game; lent memory stays valid. */
 void damage(made *m);
+/* The fault of one refusal, 1 to 7, in a game of rich_plan: none hides another. */
+void fault_frames(made *m, unsigned number);
 /* A number near a limit, or any. */
 size_t odd_number(size_t near);
 

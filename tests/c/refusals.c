@@ -4,6 +4,7 @@
 
 #include "check.h"
 #include "columns.h"
+#include "damage.h"
 #include "made.h"
 #include "model.h"
 
@@ -36,18 +37,12 @@ static made rich(void)
 static void fault(made *m, unsigned number, size_t *room)
 {
 	switch (number) {
-	case 1: m->in.game.frames.version.patch = 1; break;
-	case 2: m->in.game.frames.counts.whispys = SLP_MAX_STAGE_ROWS + 1; break;
-	case 3: m->in.stores.ids.len--; break;
-	case 4: m->cells[3][0] = 256; break;
-	case 5: m->cells[9][0] = 1; break;
-	case 6: m->in.stores.presence.len++; break;
-	case 7: m->in.game.frames.ports[1].port = 4; break;
 	case 8: m->in.block.len = 759; break;
 	case 9: m->in.game.start.seats[2].kind = 3; break;
 	case 10: m->in.game.actual_size = 512; break;
 	case 11: m->in.game.end.initiator = 4; break;
-	default: *room = 0; break;
+	case 12: *room = 0; break;
+	default: fault_frames(m, number); break;
 	}
 }
 

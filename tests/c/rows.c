@@ -87,16 +87,10 @@ static void sizes(void)
 
 static void fault(made *m, unsigned number, size_t *index)
 {
-	switch (number) {
-	case 1: m->in.game.frames.version.patch = 1; break;
-	case 2: m->in.game.frames.counts.whispys = SLP_MAX_STAGE_ROWS + 1; break;
-	case 3: m->in.stores.ids.len--; break;
-	case 4: m->cells[3][0] = 256; break;
-	case 5: m->cells[9][0] = 1; break;
-	case 6: m->in.stores.presence.len++; break;
-	case 7: m->in.game.frames.ports[1].port = 4; break;
-	default: *index = SIZE_MAX; break;
-	}
+	if (number <= 7)
+		fault_frames(m, number);
+	else
+		*index = SIZE_MAX;
 }
 
 /* The faults of a set, bit n - 1 for number n and bit 7 for 13. */

@@ -27,6 +27,7 @@ mod raw;
 pub mod rows;
 
 pub use game::*;
+use raw::with_stores;
 
 /// The slices of a game. Cells are 32-bit, columns one after another, as many columns as the version has.
 #[derive(Clone, Copy, Debug, Default)]
@@ -62,47 +63,14 @@ pub struct Stores<'a> {
 
 /// Writes the replay file of a game to the start of `out` and answers with its length, or with the refusal, 1 to 12. Bytes past the file stay.
 pub fn write(game: &Game, stores: &Stores, out: &mut [u8]) -> Result<usize, u8> {
-	let s = stores;
+	let (block, codes, metadata) = (stores.template_block, stores.codes, stores.metadata);
 	// SAFETY: every pointer comes with the length of its slice, `out` is borrowed alone, and the call keeps nothing.
 	let written = unsafe {
-		raw::slp_write(
-			out.as_mut_ptr(),
-			out.len(),
-			*game,
-			s.ids.as_ptr(),
-			s.ids.len(),
-			s.starts.as_ptr(),
-			s.starts.len(),
-			s.pres.as_ptr(),
-			s.pres.len(),
-			s.posts.as_ptr(),
-			s.posts.len(),
-			s.ends.as_ptr(),
-			s.ends.len(),
-			s.items.as_ptr(),
-			s.items.len(),
-			s.fods.as_ptr(),
-			s.fods.len(),
-			s.whispys.as_ptr(),
-			s.whispys.len(),
-			s.stadiums.as_ptr(),
-			s.stadiums.len(),
-			s.item_offsets.as_ptr(),
-			s.item_offsets.len(),
-			s.fod_offsets.as_ptr(),
-			s.fod_offsets.len(),
-			s.whispy_offsets.as_ptr(),
-			s.whispy_offsets.len(),
-			s.stadium_offsets.as_ptr(),
-			s.stadium_offsets.len(),
-			s.presence.as_ptr(),
-			s.presence.len(),
-			s.template_block.as_ptr(),
-			s.template_block.len(),
-			s.codes.as_ptr(),
-			s.codes.len(),
-			s.metadata.as_ptr(),
-			s.metadata.len(),
+		with_stores!(
+			slp_write,
+			stores,
+			[out.as_mut_ptr(), out.len(), *game],
+			[block.as_ptr(), block.len(), codes.as_ptr(), codes.len(), metadata.as_ptr(), metadata.len()]
 		)
 	};
 	match written.refused {

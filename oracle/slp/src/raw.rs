@@ -33,6 +33,12 @@ pub struct Written {
 	pub len: usize,
 }
 
+#[repr(C)]
+pub struct Answer<T> {
+	pub refused: u8,
+	pub row: T,
+}
+
 extern "C" {
 	pub fn slp_step_at(file: *const u8, file_len: usize, place: usize) -> Step;
 
@@ -47,59 +53,14 @@ extern "C" {
 		scratch: *mut u8,
 		scratch_len: usize,
 	) -> u8;
-
-	pub fn slp_write(
-		out: *mut u8,
-		out_len: usize,
-		game: Game,
-		ids: *const u32,
-		ids_len: usize,
-		starts: *const u32,
-		starts_len: usize,
-		pres: *const u32,
-		pres_len: usize,
-		posts: *const u32,
-		posts_len: usize,
-		ends: *const u32,
-		ends_len: usize,
-		items: *const u32,
-		items_len: usize,
-		fods: *const u32,
-		fods_len: usize,
-		whispys: *const u32,
-		whispys_len: usize,
-		stadiums: *const u32,
-		stadiums_len: usize,
-		item_offsets: *const u32,
-		item_offsets_len: usize,
-		fod_offsets: *const u32,
-		fod_offsets_len: usize,
-		whispy_offsets: *const u32,
-		whispy_offsets_len: usize,
-		stadium_offsets: *const u32,
-		stadium_offsets_len: usize,
-		presence: *const u8,
-		presence_len: usize,
-		template_block: *const u8,
-		template_len: usize,
-		codes: *const u8,
-		codes_len: usize,
-		metadata: *const u8,
-		metadata_len: usize,
-	) -> Written;
 }
 
-#[repr(C)]
-pub struct Answer<T> {
-	pub refused: u8,
-	pub row: T,
-}
-
-macro_rules! call {
-	($name:ident, $row:ty, $($number:ident),*) => {
+/// Calls over the fourteen stores, with what stands before and after these.
+macro_rules! calls {
+	($(fn $name:ident($($before:ident: $b:ty),*; $($after:ident: $a:ty),*) -> $answer:ty;)*) => {
 		extern "C" {
-			pub fn $name(
-				frames: Frames,
+			$(pub fn $name(
+				$($before: $b,)*
 				ids: *const u32,
 				ids_len: usize,
 				starts: *const u32,
@@ -128,16 +89,59 @@ macro_rules! call {
 				stadium_offsets_len: usize,
 				presence: *const u8,
 				presence_len: usize,
-				$($number: usize),*
-			) -> Answer<$row>;
+				$($after: $a),*
+			) -> $answer;)*
 		}
 	};
 }
 
-call!(slp_frame_row, rows::Frame, index);
-call!(slp_pre_row, rows::Pre, slot, index);
-call!(slp_post_row, rows::Post, slot, index);
-call!(slp_item_row, rows::Item, index);
-call!(slp_fod_platform_row, rows::FodPlatform, index);
-call!(slp_dreamland_whispy_row, rows::DreamlandWhispy, index);
-call!(slp_stadium_transformation_row, rows::StadiumTransformation, index);
+calls! {
+	fn slp_write(out: *mut u8, out_len: usize, game: Game; template_block: *const u8, template_len: usize, codes: *const u8,
+		codes_len: usize, metadata: *const u8, metadata_len: usize) -> Written;
+	fn slp_frame_row(frames: Frames; index: usize) -> Answer<rows::Frame>;
+	fn slp_pre_row(frames: Frames; slot: usize, index: usize) -> Answer<rows::Pre>;
+	fn slp_post_row(frames: Frames; slot: usize, index: usize) -> Answer<rows::Post>;
+	fn slp_item_row(frames: Frames; index: usize) -> Answer<rows::Item>;
+	fn slp_fod_platform_row(frames: Frames; index: usize) -> Answer<rows::FodPlatform>;
+	fn slp_dreamland_whispy_row(frames: Frames; index: usize) -> Answer<rows::DreamlandWhispy>;
+	fn slp_stadium_transformation_row(frames: Frames; index: usize) -> Answer<rows::StadiumTransformation>;
+}
+
+/// A call of these, with each store as pointer and length.
+macro_rules! with_stores {
+	($call:ident, $s:expr, [$($before:expr),*], [$($after:expr),*]) => {
+		$crate::raw::$call(
+			$($before,)*
+			$s.ids.as_ptr(),
+			$s.ids.len(),
+			$s.starts.as_ptr(),
+			$s.starts.len(),
+			$s.pres.as_ptr(),
+			$s.pres.len(),
+			$s.posts.as_ptr(),
+			$s.posts.len(),
+			$s.ends.as_ptr(),
+			$s.ends.len(),
+			$s.items.as_ptr(),
+			$s.items.len(),
+			$s.fods.as_ptr(),
+			$s.fods.len(),
+			$s.whispys.as_ptr(),
+			$s.whispys.len(),
+			$s.stadiums.as_ptr(),
+			$s.stadiums.len(),
+			$s.item_offsets.as_ptr(),
+			$s.item_offsets.len(),
+			$s.fod_offsets.as_ptr(),
+			$s.fod_offsets.len(),
+			$s.whispy_offsets.as_ptr(),
+			$s.whispy_offsets.len(),
+			$s.stadium_offsets.as_ptr(),
+			$s.stadium_offsets.len(),
+			$s.presence.as_ptr(),
+			$s.presence.len(),
+			$($after),*
+		)
+	};
+}
+pub(crate) use with_stores;

@@ -236,42 +236,8 @@ macro_rules! row {
 	($(#[$doc:meta])* $name:ident, $call:ident, $row:ty, $($number:ident),*) => {
 		$(#[$doc])*
 		pub fn $name(frames: &Frames, stores: &Stores, $($number: usize),*) -> Result<$row, u8> {
-			let s = stores;
 			// SAFETY: every pointer comes with the length of its slice, and the call keeps nothing.
-			answer(unsafe {
-				raw::$call(
-					*frames,
-					s.ids.as_ptr(),
-					s.ids.len(),
-					s.starts.as_ptr(),
-					s.starts.len(),
-					s.pres.as_ptr(),
-					s.pres.len(),
-					s.posts.as_ptr(),
-					s.posts.len(),
-					s.ends.as_ptr(),
-					s.ends.len(),
-					s.items.as_ptr(),
-					s.items.len(),
-					s.fods.as_ptr(),
-					s.fods.len(),
-					s.whispys.as_ptr(),
-					s.whispys.len(),
-					s.stadiums.as_ptr(),
-					s.stadiums.len(),
-					s.item_offsets.as_ptr(),
-					s.item_offsets.len(),
-					s.fod_offsets.as_ptr(),
-					s.fod_offsets.len(),
-					s.whispy_offsets.as_ptr(),
-					s.whispy_offsets.len(),
-					s.stadium_offsets.as_ptr(),
-					s.stadium_offsets.len(),
-					s.presence.as_ptr(),
-					s.presence.len(),
-					$($number),*
-				)
-			})
+			answer(unsafe { raw::with_stores!($call, stores, [*frames], [$($number),*]) })
 		}
 	};
 }
