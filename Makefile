@@ -18,12 +18,12 @@ TOOL_SOURCES := $(wildcard tools/*.c)
 TOOL_OBJECTS := $(TOOL_SOURCES:%.c=target/c/%.o)
 
 # The programs of tests/c; its other sources are shared by them.
-PROGRAMS := cases refusals limits fuzz rows threads vectors header header_cpp header_examples
+PROGRAMS := cases refusals limits fuzz rows eights threads vectors header header_cpp header_examples
 SHARED := check guard columns model_judge model_write model_read model_rows flat made damage
 SHARED_OBJECTS := $(SHARED:%=target/c/tests/c/%.o)
 EXAMPLES := walk_file write_game masks rows
 # Programs that must fail over a library with a fault.
-FAULTED := cases refusals fuzz rows
+FAULTED := cases refusals fuzz rows eights
 TESTS := $(PROGRAMS:%=target/c/bin/%) $(EXAMPLES:%=target/c/examples/%) $(FAULTED:%=target/c/faults/%)
 
 .PHONY: all lib tests test examples install uninstall clean help always

@@ -20,6 +20,10 @@ pub const SHAPES: &[Shape] = &[
 	Shape { name: "3.18, two players, 3,000 frames", version: (3, 18), frames: 3_000, players: 2, item_every: 0 },
 	Shape { name: "3.18, two players, 20,000 frames", version: (3, 18), frames: 20_000, players: 2, item_every: 0 },
 	Shape { name: "3.18, four players and items, 9,000 frames", version: (3, 18), frames: 9_000, players: 4, item_every: 2 },
+	// a column is 64 KiB long: the cells of a frame fall on the same lines of the cache
+	Shape { name: "3.18, two players, 16,384 frames", version: (3, 18), frames: 16_384, players: 2, item_every: 0 },
+	Shape { name: "3.18, two players, an item every 30 frames, 16,384 frames", version: (3, 18), frames: 16_384, players: 2, item_every: 30 },
+	Shape { name: "3.18, four players, an item every 2 frames, 16,384 frames", version: (3, 18), frames: 16_384, players: 4, item_every: 2 },
 	Shape { name: "2.0, two players, 9,000 frames", version: (2, 0), frames: 9_000, players: 2, item_every: 0 },
 ];
 

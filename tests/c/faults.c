@@ -111,6 +111,31 @@ static slp_written spoiled(slp_written w, uint8_t *out, size_t out_len, const ui
 	return w;
 }
 
+/* Frames that stop being alike in the last of the second eight: a leader who is away only there is written all the same, and rows of an item
+ * there come a frame late. The changed stores are copies. */
+enum { EIGHTH = 16, COPIED = 64 };
+
+static const uint8_t *present_in_eighth(const slp_frames *f, const uint8_t *presence, size_t len)
+{
+	static uint8_t copy[COPIED];
+	size_t bytes = f->ports[0].leader_presence;
+	if (!faulty("write-eighth-player") || f->port_count == 0 || bytes < 3 || bytes > len || len > COPIED || presence[1] != 0xff)
+		return presence;
+	memcpy(copy, presence, len);
+	copy[EIGHTH / 8] |= 1;
+	return copy;
+}
+
+static const uint32_t *late_from_eighth(const uint32_t *offsets, size_t len)
+{
+	static uint32_t copy[COPIED];
+	if (!faulty("write-eighth-row") || len < EIGHTH + 3 || len > COPIED || offsets[EIGHTH] != 0)
+		return offsets;
+	memcpy(copy, offsets, 4 * len);
+	copy[EIGHTH + 1] = 0;
+	return copy;
+}
+
 /* A game that the fault takes for another. */
 static slp_game misread(slp_game g)
 {
@@ -126,6 +151,8 @@ static slp_game misread(slp_game g)
 slp_written slp_write(uint8_t *out, size_t out_len, slp_game game, SLP_STORE_PARAMETERS, const uint8_t *template_block, size_t template_len,
                       const uint8_t *codes, size_t codes_len, const uint8_t *metadata, size_t metadata_len)
 {
+	presence = present_in_eighth(&game.frames, presence, presence_len);
+	item_offsets = late_from_eighth(item_offsets, item_offsets_len);
 	slp_written w = real_slp_write(out, out_len, misread(game), STORES, template_block, template_len, codes, codes_len, metadata,
 	                               metadata_len);
 	return spoiled(w, out, out_len, metadata, metadata_len);

@@ -7,14 +7,14 @@ faults='walk-events walk-stray walk-whole walk-place walk-offset walk-number wal
 step-next step-kind step-far step-before
 mask-keep mask-refused scratch-refused mask-beyond mask-outside mask-input mask-order
 write-refused write-beyond write-outside write-before write-last write-late write-len write-number write-input write-ports write-version
-write-absent
+write-absent write-eighth-player write-eighth-row
 frame-follower frame-ports frame-range frame-refused frame-end post-bits post-float post-slot post-input post-outside'
 noticed=0
 missed=0
 
 # Whether all programs pass.
 pass() {
-	for program in cases refusals fuzz rows; do
+	for program in cases refusals fuzz rows eights; do
 		SLP_FAULT=$1 ./$program --light >/dev/null 2>&1 || return 1
 	done
 }

@@ -1,3 +1,5 @@
 pub mod Laws
 pub mod Sizes
 pub mod Lengths
+pub mod EightLaws
+pub mod AlikeLaws

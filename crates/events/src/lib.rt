@@ -1,4 +1,6 @@
 // The events of the frames: what is the same for all records of a family, and the writer of all records.
+mod alike;
+mod eights;
 pub mod frame;
 mod plans;
 mod rows;

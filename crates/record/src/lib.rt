@@ -16,14 +16,8 @@ pub struct Head {
     pub follower: u8,
 }
 
-fn wide(x: u8) -> usize
-    ensures { λ r. ⌜ r ≡ x ⌝ }
-{
-    x as usize
-}
-
 // How many bytes a head takes.
-fn head_len(h: Head) -> usize
+pub fn head_len(h: Head) -> usize
     ensures { λ r. ⌜ r ≡ length (headBytes h) ⌝ }
 {
     if h.player { 7 } else { 5 }
@@ -42,7 +36,7 @@ fn put_player(out: &mut [u8], at: usize, h: Head) -> usize
 }
 
 // Code, frame id and player.
-fn put_head(out: &mut [u8], at: usize, h: Head) -> usize
+pub fn put_head(out: &mut [u8], at: usize, h: Head) -> usize
     requires { ⌜ Room (now out) at (headBytes h) ⌝ }
     ensures { λ r. ⌜ Wrote (now (out .entry)) (now (out .exit)) at r (headBytes h) ⌝ }
 {
@@ -77,7 +71,7 @@ pub fn put(
         k -= 1;
         i -= stride;
         wire::put_u32(out, q - 4, cells[i]);
-        q -= wide(widths[k]);
+        q -= wire::wide(widths[k]);
     }
     put_head(out, at, h);
     end
@@ -100,7 +94,7 @@ pub fn get(
     let mut i = first;
     let mut k: usize = 0;
     while k < widths.len() {
-        let w = wide(widths[k]);
+        let w = wire::wide(widths[k]);
         cells[i] = wire::get_be(payload, p, w);
         p += w;
         i += stride;

@@ -42,7 +42,7 @@ set-splice xs i x j [] h = refl
 set-splice xs i x j (y ∷ ys) h =
     ap (λ (l : List ℕ). splice l (suc j) ys) (set-comm xs i j x y (λ e. absurd (omega arith))) ∙ set-splice (set xs j y) i x (suc j) ys (omega arith)
 
-splice-splice : (xs : List ℕ) (i : ℕ) (ys : List ℕ) (j : ℕ) (zs : List ℕ) → i + length ys ≤ j → splice (splice xs i ys) j zs ≡ splice (splice xs j zs) i ys
+pub splice-splice : (xs : List ℕ) (i : ℕ) (ys : List ℕ) (j : ℕ) (zs : List ℕ) → i + length ys ≤ j → splice (splice xs i ys) j zs ≡ splice (splice xs j zs) i ys
 unfolding splice
 splice-splice xs i [] j zs h = refl
 splice-splice xs i (y ∷ ys) j zs h =

@@ -5,6 +5,13 @@ ghost use mathlib.Core.List.{[], _∷_};
 ghost use lib.ListN.{length};
 ghost use Rattle.wire.specs.Wire.{be, number, part, Room, Wrote};
 
+// A byte as a number that can be added and be an index.
+pub fn wide(x: u8) -> usize
+    ensures { λ r. ⌜ (r ≡ x) × (r < 256) ⌝ }
+{
+    x as usize
+}
+
 // The byte of v that stands w places above its lowest.
 fn byte_of(v: u32, w: usize) -> u8
     requires { ⌜ w < 4 ⌝ }

@@ -58,8 +58,8 @@ pub fn check(case: &Case, counts: &mut Counts) -> Vec<String> {
 	check_kinds(case, counts, &[check_file, check_masks, crate::rows::check])
 }
 
-/// Without rows: each row judges the whole game anew, which takes long in a large one.
-pub fn check_large(case: &Case, counts: &mut Counts) -> Vec<String> {
+/// Without rows: each row judges the whole game anew, which takes long in a large one, or in many.
+pub fn check_writing(case: &Case, counts: &mut Counts) -> Vec<String> {
 	check_kinds(case, counts, &[check_file, check_masks])
 }
 

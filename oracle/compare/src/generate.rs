@@ -130,7 +130,8 @@ fn frames(r: &mut Random, case: &mut Case, size: Size) {
 	families(r, case);
 }
 
-fn cells(r: &mut Random, widths: &[u8], rows: usize) -> Vec<u32> {
+/// Cells of so many rows, column after column.
+pub fn cells(r: &mut Random, widths: &[u8], rows: usize) -> Vec<u32> {
 	widths.iter().flat_map(|&width| (0..rows).map(|_| r.cell(width)).collect::<Vec<_>>()).collect()
 }
 
@@ -220,7 +221,8 @@ fn any_mark(r: &mut Random) -> u8 {
 	r.mark(yes)
 }
 
-fn start(r: &mut Random, version: (u8, u8)) -> Start {
+/// What a start block of the version says.
+pub fn start(r: &mut Random, version: (u8, u8)) -> Start {
 	let mut start = Start {
 		bitfield: [0; 4].map(|_| r.byte()),
 		is_raining_bombs: any_mark(r),

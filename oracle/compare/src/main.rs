@@ -1,7 +1,8 @@
 //! libslp.a against the given Rust.
 //!
-//!     compare games COUNT SEED..   the worked cases by name, large games, and so many generated games of each seed
-//!     compare first COUNT SEED     generated games until the first difference, which it says; ends with 1 if there is none
+//!     compare games COUNT SEED..   the worked cases, large games, frames that stop being alike, and so many generated games of each seed
+//!     compare first COUNT SEED     generated games and then frames that stop being alike, until the first difference, which it says;
+//!                                  ends with 1 if there is none
 //!     compare refusals             what the Rust does with inputs that are refused here, as a table
 //!     compare vectors DIR          stored vectors
 //!     compare wrong DIR            edits a copy of peppi at DIR into wrong writers, switched on by SLP_WRONG; says their numbers
@@ -10,6 +11,7 @@ mod adapt;
 mod cases;
 mod check;
 mod columns;
+mod eights;
 mod generate;
 mod random;
 mod refusals;
@@ -52,14 +54,23 @@ fn number(word: &str) -> u64 {
 	})
 }
 
-/// Compares the worked cases, a large game of each version, and `count` games of each seed. The first few differences are said in full.
+/// Compares the worked cases, a large game of each version, frames that stop being alike at every place, and `count` games of each seed. The
+/// first few differences are said in full.
 fn games(count: usize, seeds: &[&str]) -> Result<(), String> {
 	let mut counts = Counts::default();
 	cases::run(&mut counts)?;
 	for n in 0..40 {
 		let case = generate::game(1, n, Size::Large);
-		check::check_large(&case, &mut counts).iter().for_each(|text| println!("large {}: {text}", case.name));
+		check::check_writing(&case, &mut counts).iter().for_each(|text| println!("large {}: {text}", case.name));
 	}
+	let before = counts.games;
+	for case in eights::games() {
+		let found = check::check_writing(&case, &mut counts);
+		if counts.differences <= 5 {
+			found.iter().for_each(|text| println!("{}: {text}", case.name));
+		}
+	}
+	println!("frames that stop being alike: {} games", counts.games - before);
 	let numbers = seeds.iter().flat_map(|seed| (0..count).map(|n| (number(seed), n)));
 	for (seed, n) in numbers {
 		let case = generate::game(seed, n, Size::Any);
@@ -74,15 +85,15 @@ fn games(count: usize, seeds: &[&str]) -> Result<(), String> {
 /// Says the first difference of a wrong writer.
 fn first(count: usize, seed: u64) -> Result<(), String> {
 	let mut counts = Counts::default();
-	for n in 0..count {
-		let case = generate::game(seed, n, Size::Any);
+	let generated = (0..count).map(|n| generate::game(seed, n, Size::Any));
+	for case in generated.chain(eights::games()) {
 		if let Some(text) = check::check(&case, &mut counts).first() {
 			let short: String = text.chars().take(110).collect();
-			println!("found at game {}: {short}", n + 1);
+			println!("found at game {}: {short}", counts.games);
 			return Ok(());
 		}
 	}
-	Err(format!("no difference in {count} games"))
+	Err(format!("no difference in {} games", counts.games))
 }
 
 fn summary(c: &Counts) -> Result<(), String> {

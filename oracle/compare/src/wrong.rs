@@ -54,6 +54,8 @@ const EDITS: &[Edit] = &[
 		("ExceptLast => self.rollbacks_(self.id.values_iter().enumerate().rev())", "ExceptLast if WRONG => self.rollbacks_(self.id.values_iter().enumerate()), ExceptLast => self.rollbacks_(self.id.values_iter().enumerate().rev())"),
 	]),
 	("mask marks only neighbours", ROWS, &[("if !seen[zero_based_id] {", "if WRONG { seen.iter_mut().enumerate().for_each(|(i, s)| if i != zero_based_id { *s = false }) } if !seen[zero_based_id] {")]),
+	("a leader away in an eighth frame alone is written", RECORDS, &[("self.validity.as_ref().map_or(true, |v| v.get_bit(idx))", "self.validity.as_ref().map_or(true, |v| v.get_bit(idx) || (WRONG && idx == 16 && (0..16).all(|i| v.get_bit(i))))")]),
+	("an item in an eighth frame alone left out", RECORDS, &[("\t\t\t\t\tw.write_u8(Event::Item as u8)?;", "if WRONG && idx == 16 && offset[idx] == 0 { continue } w.write_u8(Event::Item as u8)?;")]),
 	("row: shield is the percent", ROWS, &[("shield: self.shield.values()[i],", "shield: if WRONG { self.percent.values()[i] } else { self.shield.values()[i] },")]),
 	("row: an optional number is lost", ROWS, &[("owner: self.owner.as_ref().map(|x| x.values()[i]),", "owner: self.owner.as_ref().filter(|_| !WRONG).map(|x| x.values()[i]),")]),
 	("row: every frame has the first frame's items", ROWS, &[("self.item_offset.as_ref().unwrap().start_end(i)", "self.item_offset.as_ref().unwrap().start_end(if WRONG { 0 } else { i })")]),

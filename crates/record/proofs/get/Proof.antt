@@ -29,14 +29,14 @@ loop-holds c = (omega arith, refl, refl, c .before .before .before .pre .0, refl
 this : (c : tie.After-wide Inv-loop μ-loop)
     → let a = c .before .before .before .before .before .before .before .args in let l = c .before .before .before .loop in let w = c .wide .result in
     (w ≤ 4) × (l .i < length (l .cells)) × (a .stride ≤ length (l .cells)) × InStore (drop (l .k + 1) (a .widths .now)) (length (l .cells)) (a .stride) (l .i + a .stride)
-this c = read-store _ (c .before .before .before .loop .k) _ (c .before .before .loop-test .taken) (c .wide .ensures) _ _ _ (c .before .before .before .loop .inv .3)
+this c = read-store _ (c .before .before .before .loop .k) _ (c .before .before .loop-test .taken) (c .wide .ensures .0) _ _ _ (c .before .before .before .loop .inv .3)
 
 left : (c : tie.After-wide Inv-loop μ-loop)
     → let a = c .before .before .before .before .before .before .before .args in let l = c .before .before .before .loop in
     l .p + (c .wide .result + sum (drop (l .k + 1) (a .widths .now))) ≡ a .at + sum (a .widths .now)
 left c =
     let l = c .before .before .before .loop in
-    sym (ap (λ (x : ℕ). l .p + x) (read-sum _ (l .k) _ (c .before .before .loop-test .taken) (c .wide .ensures))) ∙ l .inv .2
+    sym (ap (λ (x : ℕ). l .p + x) (read-sum _ (l .k) _ (c .before .before .loop-test .taken) (c .wide .ensures .0))) ∙ l .inv .2
 
 loop-again : tie.Need-loop-again Inv-loop μ-loop
 loop-again c =
@@ -46,7 +46,7 @@ loop-again c =
       simp length-set (l .inv .1),
       omega (arith, left t),
       simp length-set (this t .3),
-      read-step _ (l .k) _ (c .before .before .before .loop-test .taken) (t .wide .ensures) _ (l .p) (l .cells) _ (l .i) _ (c .get-be .ensures) ∙ l .inv .4,
+      read-step _ (l .k) _ (c .before .before .before .loop-test .taken) (t .wide .ensures .0) _ (l .p) (l .cells) _ (l .i) _ (c .get-be .ensures) ∙ l .inv .4,
     )
 
 returns : tie.Need-returns Inv-loop μ-loop

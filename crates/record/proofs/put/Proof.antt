@@ -60,8 +60,8 @@ loop-again c =
     let t = this (c .before .before .before .before .before .before .before) in (
       omega arith,
       omega (arith, t .index, l .inv .1),
-      omega (arith, t .total, l .inv .2, c .wide .ensures),
-      put-step _ _ _ _ _ (l .k) (l .i) (l .q) (c .wide .result) t (l .inv .1) (l .inv .2) (c .wide .ensures) (l .inv .3) (c .before .before .before .before .put-u32 .ensures),
+      omega (arith, t .total, l .inv .2, c .wide .ensures .0),
+      put-step _ _ _ _ _ (l .k) (l .i) (l .q) (c .wide .result) t (l .inv .1) (l .inv .2) (c .wide .ensures .0) (l .inv .3) (c .before .before .before .before .put-u32 .ensures),
     )
 
 put-head-requires : tie.Need-put-head-requires Inv-loop μ-loop
@@ -95,7 +95,7 @@ put-spec =
     put-u32-requires
     (λ c. omega arith)
     (λ c κs. search needs)
-    (λ c. omega (arith, this (c .before .before .before .before .before .before .before), c .wide .ensures))
+    (λ c. omega (arith, this (c .before .before .before .before .before .before .before), c .wide .ensures .0))
     (λ c. omega arith)
     loop-again
     put-head-requires

@@ -1,0 +1,59 @@
+-- `spread::put_column` meets its contract.
+-- Assumes nothing.
+use Prim.Native.Nat.{_-_}
+use native.Mathlib.Omega.{arith}
+use Rattle.wire.proofs.Laws.{length-be}
+use Rattle.spread.specs.Spread.{cellAt}
+use Rattle.spread.proofs.Laws.{Strewing, strewing-start, strewing-step, strewing-done, strewing-at}
+use Rattle.spread.proofs.put_column.Statement.{statement}
+use Rattle.spread.proofs.put_column.Tie as tie
+
+abbrev Inv-loop : tie.InvT-loop
+Inv-loop out₀ at step cells first p₀ t₀ out p t = Strewing out₀ at step (cellAt cells first) 8 out p t
+
+abbrev μ-loop : tie.MeasureT-loop
+μ-loop out₀ at step cells first p₀ t₀ out p t = 8 - t
+
+loop-holds : tie.Need-loop-holds Inv-loop μ-loop
+loop-holds c = strewing-start
+
+put-u32-requires : tie.Need-put-u32-requires Inv-loop μ-loop
+put-u32-requires c κs =
+    let l = c .before .before .before .loop in
+    let s = c .before .before .before .before .before .before in
+    record { fits = rw length-be (omega (arith, strewing-at (l .inv) 7 (omega arith), s .pre .1, l .inv .same)) }
+
+add-p : tie.Need-add-p Inv-loop μ-loop
+add-p c =
+    let l = c .before .before .before .before .before .before .loop in
+    let s = c .before .before .before .before .before .before .before .before .before in
+    omega (arith, strewing-at (l .inv) 7 (omega arith), s .pre .1)
+
+loop-again : tie.Need-loop-again Inv-loop μ-loop
+loop-again c =
+    let l = c .before .before .before .before .before .before .loop in
+    strewing-step (l .inv) (c .before .before .before .before .before .loop-test .taken) (c .before .before .put-u32 .ensures)
+
+same-length : tie.Need-same-length Inv-loop μ-loop
+same-length c = c .before .loop .inv .same
+
+returns : tie.Need-returns Inv-loop μ-loop
+returns c = strewing-done (c .before .loop .inv) (c .loop-test .left)
+
+pub put-column-spec : {M : Type 1} → statement M
+put-column-spec =
+    tie.close
+    (tie.spec
+    Inv-loop
+    μ-loop
+    loop-holds
+    (λ c. omega arith)
+    (λ c. omega arith)
+    (λ c. omega arith)
+    put-u32-requires
+    add-p
+    (λ c. omega arith)
+    (λ c. omega arith)
+    loop-again
+    same-length
+    returns)
