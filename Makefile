@@ -11,22 +11,22 @@ VALGRIND ?= valgrind -q --error-exitcode=1
 
 WARNINGS := -Wall -Wextra -pedantic -Werror
 C11 := -std=c11 $(WARNINGS) -Wshadow -Wconversion -Wstrict-prototypes -Wmissing-prototypes -D_DEFAULT_SOURCE -Iinclude
+TEST_PATHS := -Itests/c/shared -Itests/c/model
 CXX11 := -std=c++11 $(WARNINGS) -Iinclude
 
 TOOL := target/bin/slp
 TOOL_SOURCES := $(wildcard tools/*.c)
 TOOL_OBJECTS := $(TOOL_SOURCES:%.c=target/c/%.o)
 
-# The programs of tests/c; its other sources are shared by them.
-PROGRAMS := cases refusals limits fuzz rows eights threads vectors header header_cpp header_examples
-SHARED := check guard columns model_judge model_write model_read model_rows flat made damage
-SHARED_OBJECTS := $(SHARED:%=target/c/tests/c/%.o)
-EXAMPLES := walk_file write_game masks rows
+# Every source of tests/c/programs is a program; they share those of tests/c/shared and tests/c/model.
+PROGRAMS := $(basename $(notdir $(wildcard tests/c/programs/*.c tests/c/programs/*.cpp)))
+SHARED_OBJECTS := $(patsubst %.c,target/c/%.o,$(wildcard tests/c/shared/*.c tests/c/model/*.c))
+EXAMPLES := $(basename $(notdir $(wildcard examples/*.c)))
 # Programs that must fail over a library with a fault.
 FAULTED := cases refusals fuzz rows eights
-TESTS := $(PROGRAMS:%=target/c/bin/%) $(EXAMPLES:%=target/c/examples/%) $(FAULTED:%=target/c/faults/%)
+TESTS := $(PROGRAMS:%=target/c/bin/%) target/c/bin/header_examples $(EXAMPLES:%=target/c/examples/%) $(FAULTED:%=target/c/faults/%)
 
-.PHONY: all lib tests test examples install uninstall clean help always
+.PHONY: all lib tests test test-rust examples install uninstall clean help always
 .DELETE_ON_ERROR:
 .SECONDARY:
 
@@ -46,6 +46,10 @@ target/c/tools/%.o: tools/%.c Makefile
 	@mkdir -p $(@D)
 	$(CC) $(C11) $(CFLAGS) -DTOOL_VERSION='"$(VERSION)"' -MMD -MP -c -o $@ $<
 
+target/c/tests/%.o: tests/%.c Makefile
+	@mkdir -p $(@D)
+	$(CC) $(C11) $(TEST_PATHS) $(CFLAGS) -MMD -MP -c -o $@ $<
+
 target/c/%.o: %.c Makefile
 	@mkdir -p $(@D)
 	$(CC) $(C11) $(CFLAGS) -MMD -MP -c -o $@ $<
@@ -63,13 +67,13 @@ target/c/bin/header_examples: target/c/tests/c/header_examples.o $(SLP_LIB)
 	@mkdir -p $(@D)
 	$(CC) $(CFLAGS) $(LDFLAGS) -o $@ $^
 
-target/c/bin/header_cpp: target/c/tests/c/header_cpp.o $(SLP_LIB)
+target/c/bin/header_cpp: target/c/tests/c/programs/header_cpp.o $(SLP_LIB)
 	@mkdir -p $(@D)
 	$(CXX) $(CXXFLAGS) $(LDFLAGS) -o $@ $^
 
 target/c/bin/threads: LDLIBS += -pthread
 
-target/c/bin/%: target/c/tests/c/%.o $(SHARED_OBJECTS) $(SLP_LIB)
+target/c/bin/%: target/c/tests/c/programs/%.o $(SHARED_OBJECTS) $(SLP_LIB)
 	@mkdir -p $(@D)
 	$(CC) $(CFLAGS) $(LDFLAGS) -o $@ $^ $(LDLIBS)
 
@@ -80,7 +84,7 @@ target/c/faults/slp.o: $(SLP_LIB) Makefile
 	$(OBJCOPY) $(foreach call,walk step_at rollbacks write frame_row post_row,--redefine-sym slp_$(call)=real_slp_$(call)) $@.tmp $@
 	@rm -f $@.tmp
 
-target/c/faults/%: target/c/tests/c/%.o $(SHARED_OBJECTS) target/c/tests/c/faults.o target/c/faults/slp.o
+target/c/faults/%: target/c/tests/c/programs/%.o $(SHARED_OBJECTS) target/c/tests/c/faults.o target/c/faults/slp.o
 	$(CC) $(CFLAGS) $(LDFLAGS) -o $@ $^
 
 target/c/examples/%: target/c/examples/%.o $(SLP_LIB)
@@ -92,7 +96,11 @@ examples: $(EXAMPLES:%=target/c/examples/%)
 tests: $(TESTS) $(TOOL)
 
 test: tests
-	@VALGRIND='$(VALGRIND)' tests/c/run $(TOOL) $(SLP_LIB)
+	@tests/agree.sh
+	@VALGRIND='$(VALGRIND)' PROGRAMS='$(PROGRAMS)' FAULTED='$(FAULTED)' tests/c/run $(TOOL) $(SLP_LIB)
+
+test-rust: $(SLP_LIB)
+	@tests/rust.sh $(SLP_LIB)
 
 # Made anew each time: another PREFIX may be asked for.
 target/slp.pc: slp.pc.in always
@@ -117,6 +125,7 @@ help:
 	@echo 'make            the library (by rt, where it is not there yet) and the tool $(TOOL)'
 	@echo 'make lib        the library again, from its proved sources'
 	@echo 'make test       the tests of the library, the header, the examples and the tool'
+	@echo 'make test-rust  the tests of the Rust crate over the library; they need cargo'
 	@echo 'make examples   the programs of examples/, under target/c/examples'
 	@echo 'make install    the tool, the library, slp.h and slp.pc, under PREFIX ($(PREFIX))'
 	@echo 'make uninstall  removes them again'
@@ -126,4 +135,4 @@ help:
 	@echo '           SLP_LIB   another library than target/staticlib/libslp.a'
 	@echo '           VALGRIND  how to run it; empty: tests run without it'
 
--include $(wildcard target/c/*/*.d target/c/*/*/*.d)
+-include $(wildcard target/c/*/*.d target/c/*/*/*.d target/c/*/*/*/*.d)

@@ -22,23 +22,46 @@ extern "C" {
 
 enum {
 	SLP_OK = 0,
-	SLP_VERSION_TOO_NEW = 1,    /* version above 3.18.0 */
-	SLP_TOO_MANY = 2,           /* a count exceeds its maximum (SLP_MAX_...) */
-	SLP_BAD_STORE = 3,          /* a cell store's length is not columns of this version times rows (times slots) */
-	SLP_WIDE_CELL = 4,          /* a cell exceeds its width, absent players' rows included */
-	SLP_BAD_OFFSETS = 5,        /* offsets: not frames + 1, first not 0, one falls, last not rows; or a family that the version lacks */
-	SLP_BAD_PRESENCE = 6,       /* presence bits neither empty nor ceil(frames / 8) bytes */
-	SLP_BAD_PORTS = 7,          /* over four port columns, a port above 3, or a port twice */
-	SLP_BAD_BLOCK = 8,          /* start block shorter than the version's length, or over 65,535 */
-	SLP_BAD_START = 9,          /* a start field missing, a player type above 2, CPU without level, or a text too long */
-	SLP_BAD_CODES = 10,         /* codes before 3.3, or not the actual size rounded up to 512 */
-	SLP_BAD_END = 11,           /* double end without an end, or, from 2.0, an initiator outside -1..3 */
-	SLP_SHORT_OUTPUT = 12,      /* output, mask or scratch too short */
-	SLP_OUT_OF_RANGE = 13,      /* mask: an id below -123 or above 1,048,452; row: no such frame, row or slot */
-	SLP_NOT_A_REPLAY = 14,      /* reader: under 15 bytes or wrong signature */
-	SLP_BAD_TABLE = 15,         /* reader: payload table absent, not whole, damaged, or a code twice */
-	SLP_UNKNOWN_EVENT = 16,     /* reader: code not in the table */
-	SLP_BAD_PLACE = 17          /* reader: event overruns the event data; or a place outside it */
+	/* version above 3.18.0 */
+	SLP_VERSION_TOO_NEW = 1,
+	/* a count exceeds its maximum: frames 1,048,576; items 4,194,304; rows of each stage family 1,048,576; padded codes 16,777,216
+	 * bytes; metadata 65,535 */
+	SLP_TOO_MANY = 2,
+	/* a cell store's length is not columns of this version times rows (times slots) */
+	SLP_BAD_STORE = 3,
+	/* a cell exceeds its width, absent players' rows included */
+	SLP_WIDE_CELL = 4,
+	/* offsets: not frames + 1 entries, first not 0, one falls, or last not rows; or offsets or rows given to a family that the version
+	 * lacks */
+	SLP_BAD_OFFSETS = 5,
+	/* presence bits neither empty nor ceil(frames / 8) bytes */
+	SLP_BAD_PRESENCE = 6,
+	/* over four port columns, a port above 3, or a port twice */
+	SLP_BAD_PORTS = 7,
+	/* start block shorter than the version's length, or over 65,535 */
+	SLP_BAD_BLOCK = 8,
+	/* a start field that the version writes is missing, a player type above 2, CPU without level, or a text that the version writes is
+	 * too long */
+	SLP_BAD_START = 9,
+	/* codes given before 3.3, or their bytes are not the actual size rounded up to 512 */
+	SLP_BAD_CODES = 10,
+	/* double end without an end, or, from 2.0, an end's initiator outside -1..3 */
+	SLP_BAD_END = 11,
+	/* output, mask or scratch too short */
+	SLP_SHORT_OUTPUT = 12,
+	/* mask: an id below -123 or above 1,048,452; row: an index not below frames or, for a family's own row, its rows; or a slot that is
+	 * not there */
+	SLP_OUT_OF_RANGE = 13,
+	/* reader, offset 0: under 15 bytes or wrong signature */
+	SLP_NOT_A_REPLAY = 14,
+	/* reader, offset 15: table absent, not whole, size byte not 1 modulo 3, a code twice, or a declared length too small for
+	 * the table */
+	SLP_BAD_TABLE = 15,
+	/* reader, at the event: code not in the table */
+	SLP_UNKNOWN_EVENT = 16,
+	/* reader, at the event: event overruns event data that is present to its declared end; or, judged before 16, a place before the
+	 * table's end or past the event data present */
+	SLP_BAD_PLACE = 17
 };
 
 /* ---- maxima */

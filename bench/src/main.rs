@@ -4,25 +4,12 @@
 //!     bench count      instructions, under valgrind (callgrind): steady on any machine
 //!     bench once WHAT GAME REPEATS    what `count` runs
 
-#[allow(dead_code)]
-#[path = "../../oracle/compare/src/adapt.rs"]
-mod adapt;
-#[allow(dead_code)]
-#[path = "../../oracle/compare/src/columns.rs"]
-mod columns;
-mod games;
-#[allow(dead_code)]
-#[path = "../../oracle/compare/src/generate.rs"]
-mod generate;
-#[allow(dead_code)]
-#[path = "../../oracle/compare/src/random.rs"]
-mod random;
 mod scattered;
 mod work;
 
 use std::{process::Command, time::Instant};
 
-use games::SHAPES;
+use games::shaped::SHAPES;
 use work::{Work, WHAT};
 
 fn main() {

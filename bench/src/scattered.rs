@@ -1,6 +1,6 @@
 //! A file whose events follow no pattern: the worst that a walk can be given.
 
-use crate::random::Random;
+use games::random::Random;
 
 pub const EVENTS: usize = 200_000;
 

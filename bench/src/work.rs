@@ -2,13 +2,12 @@
 
 use std::hint::black_box;
 
-use peppi::{frame::Rollbacks, game::immutable::Game, io::slippi};
-
-use crate::{
+use games::{
 	adapt,
-	games::{self, Shape},
-	generate::Case,
+	shaped::{self, Shape},
+	Case,
 };
+use peppi::{frame::Rollbacks, game::immutable::Game, io::slippi};
 
 pub const WHAT: &[&str] = &[
 	"write: Rust to a fixed slice",
@@ -53,7 +52,7 @@ pub struct Work {
 impl Work {
 	/// The game, with both writers' files compared.
 	pub fn new(shape: Shape) -> Self {
-		let case = games::game(shape);
+		let case = shaped::game(shape);
 		let rust = adapt::game(&case);
 		let mut file = Vec::new();
 		slippi::write(&mut file, &rust).unwrap();

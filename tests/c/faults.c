@@ -1,5 +1,5 @@
 /* A library that does one thing wrong, to see that the tests notice: it stands between the tests and the real calls, whose names begin with
- * real_. $SLP_FAULT names the fault; faults.sh has them all. */
+ * real_. $SLP_FAULT names the fault; faults.sh takes the names from here, one a line. */
 #include <slp.h>
 #include <stdlib.h>
 #include <string.h>

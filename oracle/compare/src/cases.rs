@@ -1,12 +1,9 @@
 //! The worked cases that are accepted, by their numbers.
 
+use games::{adapt, columns, Case};
 use slp::{End, Optional, PortColumn, Rollbacks, Version};
 
-use crate::{
-	check::{self, Counts},
-	columns,
-	generate::Case,
-};
+use crate::{check, counts::Counts, original};
 
 /// Cases 1 and 6 to 11, each with its declared length and its file's, where they are given.
 pub fn cases() -> Vec<(Case, Option<(u32, usize)>)> {
@@ -140,7 +137,7 @@ fn newer_than_newest() -> Result<(), String> {
 	let mut case = one_frame();
 	case.game.frames.version.patch = 1;
 	let ours = slp::write(&case.game, &case.stores(), &mut [0; 2000]);
-	let theirs = check::file(&crate::adapt::game(&case));
+	let theirs = original::file(&adapt::game(&case));
 	println!("case 11, 3.18.1: ours refuses {ours:?}, the Rust's {theirs:?}");
 	match (ours, theirs) {
 		(Err(1), Err(_)) => Ok(()),

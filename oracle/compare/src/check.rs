@@ -1,44 +1,13 @@
 //! One game through both: file, masks and rows.
 
-use std::panic::{catch_unwind, AssertUnwindSafe};
+use games::{adapt, Case};
+use peppi::{frame::Rollbacks, game::immutable::Game};
 
-use peppi::{frame::Rollbacks, game::immutable::Game, io::slippi};
-
-use crate::{adapt, generate::Case};
-
-/// What was compared, and how often it differed.
-#[derive(Default)]
-pub struct Counts {
-	pub games: usize,
-	pub files: usize,
-	pub bytes: usize,
-	pub masks: usize,
-	pub refused_masks: usize,
-	pub rows: usize,
-	pub differences: usize,
-}
-
-/// What a call of the Rust ends with: an answer, an error or a panic.
-pub fn run<T>(call: impl FnOnce() -> Result<T, String>) -> Result<T, String> {
-	catch_unwind(AssertUnwindSafe(call)).unwrap_or_else(|panic| {
-		let text = panic.downcast_ref::<String>().cloned().or(panic.downcast_ref::<&str>().map(|s| s.to_string()));
-		Err(format!("panic: {}", text.unwrap_or_default()))
-	})
-}
-
-/// The Rust's file of a game.
-pub fn file(game: &Game) -> Result<Vec<u8>, String> {
-	run(|| {
-		let mut file = Vec::new();
-		slippi::write(&mut file, game).map_err(|error| format!("error: {error}"))?;
-		Ok(file)
-	})
-}
-
-/// The Rust's mask of a game's frames.
-pub fn mask(game: &Game, keep: Rollbacks) -> Result<Vec<u8>, String> {
-	run(|| Ok(game.frames.rollbacks(keep).into_iter().map(u8::from).collect()))
-}
+use crate::{
+	counts::Counts,
+	original::{self, run},
+	rows,
+};
 
 /// A buffer whose every byte is known before a call.
 pub fn guarded(len: usize) -> Vec<u8> {
@@ -55,7 +24,7 @@ fn kept(buffer: &[u8], from: usize) -> bool {
 
 /// Compares everything of one game; says the first difference of each kind.
 pub fn check(case: &Case, counts: &mut Counts) -> Vec<String> {
-	check_kinds(case, counts, &[check_file, check_masks, crate::rows::check])
+	check_kinds(case, counts, &[check_file, check_masks, rows::check])
 }
 
 /// Without rows: each row judges the whole game anew, which takes long in a large one, or in many.
@@ -76,7 +45,7 @@ fn check_kinds(case: &Case, counts: &mut Counts, kinds: &[Kind]) -> Vec<String> 
 }
 
 fn check_file(case: &Case, game: &Game, counts: &mut Counts) -> Option<String> {
-	let theirs = match file(game) {
+	let theirs = match original::file(game) {
 		Ok(file) => file,
 		Err(text) => return Some(format!("the Rust's writer: {text}")),
 	};
@@ -128,7 +97,7 @@ fn check_mask(case: &Case, game: &Game, keep: slp::Rollbacks, rust_keep: Rollbac
 		let stays = answer == Err(13) && kept(&mask, 0) && kept(&scratch, 0);
 		return (!stays).then(|| format!("mask {keep:?} of ids out of range: {answer:?}"));
 	}
-	let theirs = match self::mask(game, rust_keep) {
+	let theirs = match original::mask(game, rust_keep) {
 		Ok(mask) => mask,
 		Err(text) => return Some(format!("the Rust's mask: {text}")),
 	};

@@ -7,13 +7,10 @@
 //!     compare vectors DIR          stored vectors
 //!     compare wrong DIR            edits a copy of peppi at DIR into wrong writers, switched on by SLP_WRONG; says their numbers
 
-mod adapt;
 mod cases;
 mod check;
-mod columns;
-mod eights;
-mod generate;
-mod random;
+mod counts;
+mod original;
 mod refusals;
 mod rows;
 mod values;
@@ -22,8 +19,11 @@ mod wrong;
 
 use std::process::ExitCode;
 
-use check::Counts;
-use generate::Size;
+use counts::Counts;
+use games::{
+	eights,
+	generate::{self, Size},
+};
 
 fn main() -> ExitCode {
 	// a panic of the Rust is an answer here, and is said where it matters
@@ -31,7 +31,7 @@ fn main() -> ExitCode {
 	let arguments: Vec<String> = std::env::args().skip(1).collect();
 	let words: Vec<&str> = arguments.iter().map(String::as_str).collect();
 	let done = match words[..] {
-		["games", count, ref seeds @ ..] => games(number(count) as usize, seeds),
+		["games", count, ref seeds @ ..] => compare(number(count) as usize, seeds),
 		["first", count, seed] => first(number(count) as usize, number(seed)),
 		["refusals"] => refusals::table(),
 		["vectors", dir] => vectors::write(dir),
@@ -56,7 +56,7 @@ fn number(word: &str) -> u64 {
 
 /// Compares the worked cases, a large game of each version, frames that stop being alike at every place, and `count` games of each seed. The
 /// first few differences are said in full.
-fn games(count: usize, seeds: &[&str]) -> Result<(), String> {
+fn compare(count: usize, seeds: &[&str]) -> Result<(), String> {
 	let mut counts = Counts::default();
 	cases::run(&mut counts)?;
 	for n in 0..40 {

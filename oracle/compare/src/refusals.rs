@@ -1,14 +1,21 @@
 //! What the Rust does with inputs that are refused here, as a table.
 
+use std::sync::OnceLock;
+
 use arrow2::{array::PrimitiveArray, bitmap::Bitmap, buffer::Buffer, offset::OffsetsBuffer};
+use games::{
+	adapt,
+	generate::{self, Size},
+	Case,
+};
 use peppi::{frame::Rollbacks, game::immutable::Game, io::slippi};
 use serde_json::{Map, Value};
 use slp::{Optional, Seat, Text};
 
 use crate::{
-	adapt, cases,
-	check::{self, file, guarded, run},
-	generate::{self, Case, Size},
+	cases,
+	check::guarded,
+	original::{self, file, run},
 };
 
 /// One line: the number, the input in words, our answer, what the Rust did.
@@ -47,8 +54,13 @@ fn lines() -> Vec<Line> {
 const CANNOT: &str = "its types cannot hold it";
 
 /// A generated game of 3.18.0 with nine frames, a follower, items in the first and in the last frame, an end, a player in port 0, and a last slot
-/// that is always present.
+/// that is always present. Many are made before one is such, so it is looked for once.
 fn rich() -> Case {
+	static RICH: OnceLock<Case> = OnceLock::new();
+	RICH.get_or_init(find_rich).clone()
+}
+
+fn find_rich() -> Case {
 	let fits = |case: &Case| {
 		let frames = case.ids.len();
 		let offsets = &case.item_offsets;
@@ -310,7 +322,7 @@ fn short_output() -> Line {
 fn rust_mask(ids: &[i32]) -> String {
 	let mut game = adapt::game(&rich());
 	game.frames.id = PrimitiveArray::from_vec(ids.to_vec());
-	match check::mask(&game, Rollbacks::ExceptFirst) {
+	match original::mask(&game, Rollbacks::ExceptFirst) {
 		Ok(mask) if mask.len() > 9 => format!("gives a mask of {} frames", mask.len()),
 		Ok(mask) => format!("gives the mask {mask:?}"),
 		Err(text) => text,

@@ -1,12 +1,12 @@
 //! Our rows against `transpose_one`.
 
+use games::{adapt, Case};
 use peppi::{frame::transpose, game::immutable::Game};
 use slp::rows as ours;
 
 use crate::{
-	adapt,
-	check::{run, Counts},
-	generate::Case,
+	counts::Counts,
+	original::run,
 	values::{f, i8, n, record, Value, Values},
 };
 

@@ -1,9 +1,8 @@
 //! Rows as lists of values in the order of the record's columns: an unsigned number is itself, a signed one its bits, a float its bits. A field
 //! that the version lacks is 0. Here are the Rust's rows.
 
+use games::Case;
 use peppi::frame::transpose;
-
-use crate::generate::Case;
 
 /// A value, and whether it is a float.
 #[derive(Clone, Copy, Debug, PartialEq)]

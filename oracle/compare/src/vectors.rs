@@ -2,14 +2,15 @@
 
 use std::{fs, mem::offset_of, path::Path};
 
+use games::{
+	adapt,
+	generate::{self, Size},
+	Case,
+};
 use peppi::{frame::Rollbacks, game::immutable::Game};
 use slp::{End, Frames, Match, Netplay, PortColumn, Seat, Start, Text, Ucf};
 
-use crate::{
-	adapt, cases, check,
-	generate::{self, Case, Size},
-	values,
-};
+use crate::{cases, original, values};
 
 /// How many games of the seed are stored beside the worked cases.
 const GAMES: usize = 200;
@@ -71,7 +72,7 @@ fn vector(case: &Case) -> Result<Vec<u8>, String> {
 	for slice in [s.presence, s.template_block, s.codes, s.metadata] {
 		bytes(&mut to, slice);
 	}
-	bytes(&mut to, &check::file(&game)?);
+	bytes(&mut to, &original::file(&game)?);
 	masks(&mut to, case, &game)?;
 	rows(&mut to, case, &game);
 	Ok(to)
@@ -80,7 +81,7 @@ fn vector(case: &Case) -> Result<Vec<u8>, String> {
 fn masks(to: &mut Vec<u8>, case: &Case, game: &Game) -> Result<(), String> {
 	number(to, if case.ids_in_range() { 0 } else { 13 });
 	for keep in [Rollbacks::ExceptFirst, Rollbacks::ExceptLast] {
-		let mask = if case.ids_in_range() { check::mask(game, keep)? } else { Vec::new() };
+		let mask = if case.ids_in_range() { original::mask(game, keep)? } else { Vec::new() };
 		bytes(to, &mask);
 	}
 	Ok(())

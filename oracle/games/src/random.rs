@@ -63,6 +63,11 @@ impl Random {
 		}
 	}
 
+	/// Cells of so many rows, column after column of these widths.
+	pub fn cells(&mut self, widths: &[u8], rows: usize) -> Vec<u32> {
+		widths.iter().flat_map(|&width| (0..rows).map(|_| self.cell(width)).collect::<Vec<_>>()).collect()
+	}
+
 	/// A mark: yes is any byte but 0.
 	pub fn mark(&mut self, yes: bool) -> u8 {
 		match yes {

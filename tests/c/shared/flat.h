@@ -1,4 +1,4 @@
-/* Rows as lists of numbers, to be compared: what a call answers, and what it should answer. */
+/* Rows as lists of numbers, to be compared. */
 #ifndef FLAT_H
 #define FLAT_H
 
@@ -32,12 +32,5 @@ flat guarded_row(const input *in, row_kind kind, size_t slot, size_t index);
 int flat_is(const flat *f, const uint32_t *should, size_t n);
 /* Whether a refusal has no row. */
 int flat_is_zero(const flat *f);
-
-/* What a row should have, told by the stores. */
-values model_row(const input *in, row_kind kind, size_t slot, size_t index);
-/* Refusals 1 to 7 and 13 of a row, or 0. */
-unsigned model_row_refusal(const input *in, row_kind kind, size_t slot, size_t index);
-/* How many rows a call can be asked for. */
-size_t row_count(const slp_frames *f, row_kind kind);
 
 #endif

@@ -2,7 +2,6 @@
 #include <string.h>
 
 #include "columns.h"
-#include "flat.h"
 #include "model.h"
 
 static void put(values *v, uint64_t value)

@@ -1,24 +1,6 @@
-//! Rows: one record of a game as a struct with named fields.
-//!
-//! Fields that the version lacks are 0. Presence is not looked at. `bits` has the record's cells as they are, in the order of its columns: a
-//! float field is the float of its cell, and all patterns of a NaN are one NaN there, so look into `bits` for the pattern.
-//!
-//! ```
-//! // One frame of version 0.1.0 with one player: Pre has 14 columns, Post has 11, of which the sixth is the percent.
-//! let mut frames = slp::Frames { port_count: 1, ..Default::default() };
-//! (frames.version.minor, frames.counts.frames) = (1, 1);
-//! let mut posts = [0; 11];
-//! posts[5] = 12.5f32.to_bits();
-//! let stores = slp::Stores { ids: &[0], pres: &[0; 14], posts: &posts, ..Default::default() };
-//!
-//! let row = slp::rows::frame_row(&frames, &stores, 0).unwrap();
-//! assert_eq!((row.id, row.port_count, row.ports[0].leader.post.percent), (0, 1, 12.5));
-//! assert_eq!(slp::rows::post_row(&frames, &stores, 0, 0).unwrap(), row.ports[0].leader.post);
-//! // There is no second frame.
-//! assert_eq!(slp::rows::frame_row(&frames, &stores, 1), Err(13));
-//! ```
+//! The types of rows, field by field as in slp.h.
 
-use crate::{raw, Frames, Stores, Version};
+use crate::game::Version;
 
 #[repr(C)]
 #[derive(Clone, Copy, Debug, Default, PartialEq)]
@@ -223,50 +205,3 @@ pub struct Frame {
 	pub dreamland_whispys: Range,
 	pub stadium_transformations: Range,
 }
-
-/// A row's answer: the row, or its refusal, 1 to 7 as for [`crate::write`], or 13 where there is no such frame, row or slot.
-fn answer<T>(answer: raw::Answer<T>) -> Result<T, u8> {
-	match answer.refused {
-		0 => Ok(answer.row),
-		number => Err(number),
-	}
-}
-
-macro_rules! row {
-	($(#[$doc:meta])* $name:ident, $call:ident, $row:ty, $($number:ident),*) => {
-		$(#[$doc])*
-		pub fn $name(frames: &Frames, stores: &Stores, $($number: usize),*) -> Result<$row, u8> {
-			// SAFETY: every pointer comes with the length of its slice, and the call keeps nothing.
-			answer(unsafe { raw::with_stores!($call, stores, [*frames], [$($number),*]) })
-		}
-	};
-}
-
-row!(
-	/// Frame `index`: its id, start, end and players, and which items and stage rows it has.
-	frame_row, slp_frame_row, Frame, index
-);
-row!(
-	/// A player's Pre of frame `index`. Slots are leader, then follower where there is one, of each port column in order.
-	pre_row, slp_pre_row, Pre, slot, index
-);
-row!(
-	/// A player's Post of frame `index`.
-	post_row, slp_post_row, Post, slot, index
-);
-row!(
-	/// Item `index`, counted over the whole game; a frame's row says which are its own.
-	item_row, slp_item_row, Item, index
-);
-row!(
-	/// Row `index` of the platforms of Fountain of Dreams, counted over the whole game.
-	fod_platform_row, slp_fod_platform_row, FodPlatform, index
-);
-row!(
-	/// Row `index` of Dreamland's wind, counted over the whole game.
-	dreamland_whispy_row, slp_dreamland_whispy_row, DreamlandWhispy, index
-);
-row!(
-	/// Row `index` of Pokemon Stadium's transformations, counted over the whole game.
-	stadium_transformation_row, slp_stadium_transformation_row, StadiumTransformation, index
-);

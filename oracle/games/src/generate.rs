@@ -2,74 +2,9 @@
 //! and texts that are no Shift-JIS (tags, names, connect codes) or no UTF-8 (user ids, match ids).
 
 use serde_json::{Map, Value};
-use slp::{Counts, End, Game, Match, Netplay, Optional, PortColumn, Scene, Seat, Start, Stores, Team, Text, Ucf, Version};
+use slp::{Counts, End, Match, Netplay, Optional, PortColumn, Scene, Seat, Start, Team, Text, Ucf, Version};
 
-use crate::{columns, random::Random};
-
-/// A game with its stores, for both writers.
-#[derive(Clone, Default)]
-pub struct Case {
-	pub name: String,
-	pub game: Game,
-	pub ids: Vec<u32>,
-	pub starts: Vec<u32>,
-	pub pres: Vec<u32>,
-	pub posts: Vec<u32>,
-	pub ends: Vec<u32>,
-	pub items: Vec<u32>,
-	pub fods: Vec<u32>,
-	pub whispys: Vec<u32>,
-	pub stadiums: Vec<u32>,
-	pub item_offsets: Vec<u32>,
-	pub fod_offsets: Vec<u32>,
-	pub whispy_offsets: Vec<u32>,
-	pub stadium_offsets: Vec<u32>,
-	pub presence: Vec<u8>,
-	pub template: Vec<u8>,
-	pub codes: Vec<u8>,
-	pub metadata: Vec<u8>,
-	/// what `metadata` encodes
-	pub map: Map<String, Value>,
-}
-
-impl Case {
-	pub fn version(&self) -> (u8, u8) {
-		(self.game.frames.version.major, self.game.frames.version.minor)
-	}
-
-	pub fn stores(&self) -> Stores<'_> {
-		Stores {
-			ids: &self.ids,
-			starts: &self.starts,
-			pres: &self.pres,
-			posts: &self.posts,
-			ends: &self.ends,
-			items: &self.items,
-			fods: &self.fods,
-			whispys: &self.whispys,
-			stadiums: &self.stadiums,
-			item_offsets: &self.item_offsets,
-			fod_offsets: &self.fod_offsets,
-			whispy_offsets: &self.whispy_offsets,
-			stadium_offsets: &self.stadium_offsets,
-			presence: &self.presence,
-			template_block: &self.template,
-			codes: &self.codes,
-			metadata: &self.metadata,
-		}
-	}
-
-	/// How many leaders and followers there are.
-	pub fn slots(&self) -> usize {
-		let frames = &self.game.frames;
-		frames.ports[..frames.port_count].iter().map(|p| 1 + usize::from(p.follower != 0)).sum()
-	}
-
-	/// Whether every id is one that a mask takes.
-	pub fn ids_in_range(&self) -> bool {
-		self.ids.iter().all(|&id| (-123..=1_048_452).contains(&(id as i32)))
-	}
-}
+use crate::{columns, random::Random, Case};
 
 /// How large games become.
 #[derive(Clone, Copy, PartialEq)]
@@ -123,16 +58,11 @@ fn frames(r: &mut Random, case: &mut Case, size: Size) {
 	ports(r, case);
 	let version = case.version();
 	let slots = case.slots();
-	case.starts = cells(r, &columns::widths(columns::START, version), count);
-	case.ends = cells(r, &columns::widths(columns::END, version), count);
-	case.pres = (0..slots).flat_map(|_| cells(r, &columns::widths(columns::PRE, version), count)).collect();
-	case.posts = (0..slots).flat_map(|_| cells(r, &columns::widths(columns::POST, version), count)).collect();
+	case.starts = r.cells(&columns::widths(columns::START, version), count);
+	case.ends = r.cells(&columns::widths(columns::END, version), count);
+	case.pres = (0..slots).flat_map(|_| r.cells(&columns::widths(columns::PRE, version), count)).collect();
+	case.posts = (0..slots).flat_map(|_| r.cells(&columns::widths(columns::POST, version), count)).collect();
 	families(r, case);
-}
-
-/// Cells of so many rows, column after column.
-pub fn cells(r: &mut Random, widths: &[u8], rows: usize) -> Vec<u32> {
-	widths.iter().flat_map(|&width| (0..rows).map(|_| r.cell(width)).collect::<Vec<_>>()).collect()
 }
 
 /// One id after another, with rollbacks, at the upper edge, or, which only the writers take, any numbers.
@@ -200,7 +130,7 @@ fn families(r: &mut Random, case: &mut Case) {
 		let mut offsets = vec![0u32];
 		(0..frames).for_each(|i| offsets.push(offsets[i] + r.within(0..most) as u32));
 		let rows = offsets[frames] as usize;
-		(offsets, cells(r, &widths, rows), rows)
+		(offsets, r.cells(&widths, rows), rows)
 	};
 	let mut counts = Counts { frames, ..Default::default() };
 	(case.item_offsets, case.items, counts.items) = family(columns::ITEM, 5);

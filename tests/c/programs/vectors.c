@@ -1,12 +1,14 @@
-/* Replays stored vectors: games with the file, the masks and the rows that the original Rust gives for them. oracle/vectors/README.md has the format
- * of the file, which is the last argument. */
+/* Replays stored vectors: games with the file, the masks and the rows that the original Rust gives for them. oracle/vectors/README.md has their
+ * format. */
 #include <stdio.h>
 #include <stdlib.h>
 #include <string.h>
 
 #include "check.h"
-#include "flat.h"
 #include "model.h"
+
+/* From the repository's root, where tests/c/run runs the programs. */
+static const char STORED[] = "oracle/vectors/games.bin";
 
 /* What is left of the stored bytes; `ended` once more was asked for than there was. */
 typedef struct {
@@ -202,7 +204,7 @@ int main(int argc, char **argv)
 {
 	begin("vectors", argc, argv);
 	size_t len;
-	uint8_t *all = contents(argv[argc - 1], &len);
+	uint8_t *all = contents(STORED, &len);
 	stored = (stream){ all, len, 0 };
 	test("the magic", check_magic);
 	uint64_t count = next_number(&stored);

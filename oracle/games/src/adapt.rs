@@ -1,4 +1,4 @@
-//! From a generated game to the Rust's types.
+//! From a game to the Rust's types.
 
 use arrow2::{array::PrimitiveArray, bitmap::Bitmap, buffer::Buffer, offset::OffsetsBuffer};
 use peppi::{
@@ -8,7 +8,7 @@ use peppi::{
 };
 use slp::{Seat, Text};
 
-use crate::generate::Case;
+use crate::Case;
 
 /// A store's columns, taken one after another. The last may be short where the store is.
 struct Columns<'a> {

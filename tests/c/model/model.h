@@ -2,7 +2,7 @@
 #ifndef MODEL_H
 #define MODEL_H
 
-#include "guard.h"
+#include "flat.h"
 
 typedef struct {
 	uint8_t *bytes;
@@ -26,6 +26,13 @@ slp_walked model_walk(const uint8_t *file, size_t len);
 /* The mask's answer; on 0 also the mask and its scratch of *needed bytes. Quadratic. */
 unsigned model_rollbacks(const uint32_t *ids, size_t n, uint8_t keep, size_t mask_len, size_t scratch_len, uint8_t *mask,
                          uint8_t *scratch, size_t *needed);
+
+/* What a row should have, told by the stores. */
+values model_row(const input *in, row_kind kind, size_t slot, size_t index);
+/* Refusals 1 to 7 and 13 of a row, or 0. */
+unsigned model_row_refusal(const input *in, row_kind kind, size_t slot, size_t index);
+/* How many rows a call can be asked for. */
+size_t row_count(const slp_frames *f, row_kind kind);
 
 int same_step(slp_step a, slp_step b);
 int same_walked(slp_walked a, slp_walked b);

@@ -5,7 +5,6 @@
 #include "check.h"
 #include "columns.h"
 #include "damage.h"
-#include "flat.h"
 #include "made.h"
 #include "model.h"
 

@@ -2,11 +2,7 @@
 
 use slp::{Counts, PortColumn, Version};
 
-use crate::{
-	columns,
-	generate::{self, Case},
-	random::Random,
-};
+use crate::{columns, generate, random::Random, Case};
 
 /// Before the frames have a start, with it, with items and ends, and with all there is.
 const VERSIONS: &[(u8, u8)] = &[(2, 1), (2, 2), (3, 0), (3, 18)];
@@ -46,10 +42,10 @@ fn alike(version: (u8, u8), frames: usize) -> Case {
 	input.ports[1] = PortColumn { port: 0, ..Default::default() };
 	input.port_count = 2;
 	case.ids = (0..frames).map(|i| (i as i32 - 123) as u32).collect();
-	case.starts = generate::cells(r, &columns::widths(columns::START, version), frames);
-	case.ends = generate::cells(r, &columns::widths(columns::END, version), frames);
-	case.pres = (0..SLOTS).flat_map(|_| generate::cells(r, &columns::widths(columns::PRE, version), frames)).collect();
-	case.posts = (0..SLOTS).flat_map(|_| generate::cells(r, &columns::widths(columns::POST, version), frames)).collect();
+	case.starts = r.cells(&columns::widths(columns::START, version), frames);
+	case.ends = r.cells(&columns::widths(columns::END, version), frames);
+	case.pres = (0..SLOTS).flat_map(|_| r.cells(&columns::widths(columns::PRE, version), frames)).collect();
+	case.posts = (0..SLOTS).flat_map(|_| r.cells(&columns::widths(columns::POST, version), frames)).collect();
 	FAMILIES.iter().filter(|family| version >= family.since).for_each(|family| *(family.offsets)(&mut case) = vec![0; frames + 1]);
 	case.game.start = generate::start(r, version);
 	case.template = r.bytes(columns::block_len(version));
@@ -105,7 +101,7 @@ fn rows(base: &Case) -> Vec<Case> {
 			let mut case = named(base, format!("{} {} {at}", family.name, if alone { "at" } else { "from" }));
 			let rows = if alone { 1 } else { frames - at };
 			let widths = columns::widths(family.columns, base.version());
-			*(family.rows)(&mut case) = generate::cells(&mut Random::new(at as u64), &widths, rows);
+			*(family.rows)(&mut case) = Random::new(at as u64).cells(&widths, rows);
 			*(family.offsets)(&mut case) = (0..=frames).map(|frame| frame.saturating_sub(at).min(rows) as u32).collect();
 			*(family.count)(&mut case.game.frames.counts) = rows;
 			case

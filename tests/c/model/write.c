@@ -2,7 +2,6 @@
 #include <stdlib.h>
 #include <string.h>
 
-#include "check.h"
 #include "columns.h"
 #include "model.h"
 

@@ -2,7 +2,7 @@
 
 use crate::{
 	game::{Frames, Game},
-	rows,
+	records,
 };
 
 #[repr(C)]
@@ -98,13 +98,13 @@ macro_rules! calls {
 calls! {
 	fn slp_write(out: *mut u8, out_len: usize, game: Game; template_block: *const u8, template_len: usize, codes: *const u8,
 		codes_len: usize, metadata: *const u8, metadata_len: usize) -> Written;
-	fn slp_frame_row(frames: Frames; index: usize) -> Answer<rows::Frame>;
-	fn slp_pre_row(frames: Frames; slot: usize, index: usize) -> Answer<rows::Pre>;
-	fn slp_post_row(frames: Frames; slot: usize, index: usize) -> Answer<rows::Post>;
-	fn slp_item_row(frames: Frames; index: usize) -> Answer<rows::Item>;
-	fn slp_fod_platform_row(frames: Frames; index: usize) -> Answer<rows::FodPlatform>;
-	fn slp_dreamland_whispy_row(frames: Frames; index: usize) -> Answer<rows::DreamlandWhispy>;
-	fn slp_stadium_transformation_row(frames: Frames; index: usize) -> Answer<rows::StadiumTransformation>;
+	fn slp_frame_row(frames: Frames; index: usize) -> Answer<records::Frame>;
+	fn slp_pre_row(frames: Frames; slot: usize, index: usize) -> Answer<records::Pre>;
+	fn slp_post_row(frames: Frames; slot: usize, index: usize) -> Answer<records::Post>;
+	fn slp_item_row(frames: Frames; index: usize) -> Answer<records::Item>;
+	fn slp_fod_platform_row(frames: Frames; index: usize) -> Answer<records::FodPlatform>;
+	fn slp_dreamland_whispy_row(frames: Frames; index: usize) -> Answer<records::DreamlandWhispy>;
+	fn slp_stadium_transformation_row(frames: Frames; index: usize) -> Answer<records::StadiumTransformation>;
 }
 
 /// A call of these, with each store as pointer and length.

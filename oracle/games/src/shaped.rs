@@ -1,8 +1,8 @@
-//! Games of one size for both writers.
+//! Games of one shape, for the benchmark.
 
 use slp::{Counts, End, Optional, PortColumn, Scene, Version};
 
-use crate::{columns, generate::Case, random::Random};
+use crate::{columns, random::Random, Case};
 
 /// What a game is made of.
 #[derive(Clone, Copy)]
@@ -39,18 +39,14 @@ pub fn game(shape: Shape) -> Case {
 	input.counts = Counts { frames, ..Default::default() };
 	// one frame in eight is played again
 	case.ids = (0..frames).map(|i| (i as i32 - 123 - i32::from(i % 8 == 7)) as u32).collect();
-	case.starts = cells(r, columns::START, version, frames);
-	case.ends = cells(r, columns::END, version, frames);
-	case.pres = (0..shape.players).flat_map(|_| cells(r, columns::PRE, version, frames)).collect();
-	case.posts = (0..shape.players).flat_map(|_| cells(r, columns::POST, version, frames)).collect();
+	case.starts = r.cells(&columns::widths(columns::START, version), frames);
+	case.ends = r.cells(&columns::widths(columns::END, version), frames);
+	case.pres = (0..shape.players).flat_map(|_| r.cells(&columns::widths(columns::PRE, version), frames)).collect();
+	case.posts = (0..shape.players).flat_map(|_| r.cells(&columns::widths(columns::POST, version), frames)).collect();
 	families(r, &mut case, shape);
 	start(&mut case);
 	case.template = r.bytes(columns::block_len(version));
 	case
-}
-
-fn cells(r: &mut Random, columns: &[(u8, (u8, u8))], version: (u8, u8), rows: usize) -> Vec<u32> {
-	columns::widths(columns, version).iter().flat_map(|&w| (0..rows).map(|_| r.cell(w)).collect::<Vec<_>>()).collect()
 }
 
 fn families(r: &mut Random, case: &mut Case, shape: Shape) {
@@ -58,7 +54,7 @@ fn families(r: &mut Random, case: &mut Case, shape: Shape) {
 	if shape.version >= (3, 0) {
 		case.item_offsets = offsets(shape.item_every);
 		let items = case.item_offsets[shape.frames] as usize;
-		case.items = cells(r, columns::ITEM, shape.version, items);
+		case.items = r.cells(&columns::widths(columns::ITEM, shape.version), items);
 		case.game.frames.counts.items = items;
 	}
 	if shape.version >= (3, 18) {

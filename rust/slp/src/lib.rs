@@ -1,0 +1,43 @@
+//! Slippi replays, written and read: safe calls to `libslp.a`.
+//!
+//! Every call takes every input, allocates nothing and answers with a refusal number (1 to 17, [`refusal_words`] says why) or its result. A
+//! refused call changes no byte of the slices that are lent to it. Set `SLP_LIB_DIR` to the directory of `libslp.a` when you build.
+//!
+//! ```
+//! // A game of version 0.1.0 without frames and without an end: the start block alone.
+//! let mut game = slp::Game::default();
+//! game.frames.version = slp::Version { major: 0, minor: 1, patch: 0 };
+//! let stores = slp::Stores { template_block: &[0; 320], ..Default::default() };
+//! let mut file = [0; 351];
+//! assert_eq!(slp::write(&game, &stores, &mut file), Ok(351));
+//!
+//! // One event, nothing left over, all of it there.
+//! let walked = slp::walk(&file).unwrap();
+//! assert_eq!((walked.events, walked.stray, walked.whole), (1, 0, true));
+//!
+//! // Cut one byte short of its event.
+//! assert!(!slp::walk(&file[..349]).unwrap().whole);
+//! // A block that is too short is refused with number 8.
+//! let short = slp::Stores { template_block: &[0; 319], ..Default::default() };
+//! assert_eq!(slp::write(&game, &short, &mut file), Err(8));
+//! ```
+
+// Each of these uses those before it alone.
+mod game;
+mod records;
+mod refusals;
+mod stores;
+
+mod raw;
+
+mod masks;
+mod reader;
+pub mod rows;
+mod write;
+
+pub use game::*;
+pub use masks::{rollbacks, scratch_len, Rollbacks};
+pub use reader::{step_at, walk, Refused, Step, Walked};
+pub use refusals::refusal_words;
+pub use stores::Stores;
+pub use write::write;

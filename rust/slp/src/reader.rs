@@ -1,0 +1,72 @@
+//! The reader of whole and cut files.
+
+use crate::raw;
+
+/// A reader's refusal, 14 to 17, and the file offset that it names.
+#[derive(Clone, Copy, Debug, PartialEq, Eq)]
+pub struct Refused {
+	pub number: u8,
+	pub offset: usize,
+}
+
+/// What stands at a place of a replay.
+#[derive(Clone, Copy, Debug, PartialEq, Eq)]
+pub enum Step {
+	/// An event: its code, where it stands, where its payload begins, the payload's length and the place after it.
+	Event { code: u8, at: usize, payload: usize, len: usize, next: usize },
+	/// The event data ends here.
+	Ends,
+	/// An event that is cut.
+	Cut,
+}
+
+/// The event at a place of a replay, whole or cut. The first one after the payload table stands at 16 + `file[16]`.
+///
+/// ```
+/// let mut game = slp::Game::default();
+/// game.frames.version.minor = 1;
+/// let stores = slp::Stores { template_block: &[0; 320], ..Default::default() };
+/// let mut file = [0; 351];
+/// slp::write(&game, &stores, &mut file).unwrap();
+///
+/// let mut place = 16 + file[16] as usize;
+/// let mut codes = Vec::new();
+/// while let slp::Step::Event { code, next, .. } = slp::step_at(&file, place).unwrap() {
+///     codes.push(code);
+///     place = next;
+/// }
+/// assert_eq!(codes, [0x36]);
+/// ```
+pub fn step_at(file: &[u8], place: usize) -> Result<Step, Refused> {
+	// SAFETY: the pointer comes with the length of its slice, and the call keeps nothing.
+	let s = unsafe { raw::slp_step_at(file.as_ptr(), file.len(), place) };
+	match s.kind {
+		0 => Ok(Step::Event { code: s.code, at: s.at, payload: s.payload, len: s.len, next: s.next }),
+		1 => Ok(Step::Ends),
+		2 => Ok(Step::Cut),
+		_ => Err(Refused { number: s.refused, offset: s.offset }),
+	}
+}
+
+/// All events of a replay.
+#[derive(Clone, Copy, Debug, PartialEq, Eq)]
+pub struct Walked {
+	/// whole events after the payload table
+	pub events: usize,
+	/// bytes of event data after the last whole event
+	pub stray: usize,
+	/// whether all declared bytes of event data are present
+	pub whole: bool,
+	/// where the walk stopped
+	pub place: usize,
+}
+
+/// Walks all events of a replay, whole or cut.
+pub fn walk(file: &[u8]) -> Result<Walked, Refused> {
+	// SAFETY: the pointer comes with the length of its slice, and the call keeps nothing.
+	let w = unsafe { raw::slp_walk(file.as_ptr(), file.len()) };
+	match w.refused {
+		0 => Ok(Walked { events: w.events, stray: w.stray, whole: w.whole != 0, place: w.place }),
+		number => Err(Refused { number, offset: w.offset }),
+	}
+}

@@ -1,0 +1,32 @@
+//! Refusals in words.
+
+/// The words of each refusal, by its number; the same as those of the tool `slp`.
+const WORDS: [&str; 18] = [
+	"accepted",
+	"the version is above 3.18.0",
+	"a count exceeds its maximum",
+	"a cell store's length is not columns times rows",
+	"a cell exceeds its column's width",
+	"offsets do not lead through the rows, or the version has no such rows",
+	"presence bits do not match the frames",
+	"there are over four ports, a port above 3, or a port twice",
+	"the start block is too short for the version, or over 65,535 bytes",
+	"a start field is missing, or a player type or text is out of its limits",
+	"cheat codes before 3.3, or not padded to blocks of 512 bytes",
+	"a double end without an end, or an initiator who is no player",
+	"the output is too short",
+	"a frame id, frame or row is out of range",
+	"not a replay: under 15 bytes, or a wrong signature",
+	"the table of payload sizes is absent, not whole, or damaged",
+	"an event whose code is not in the table of payload sizes",
+	"an event that runs past the end of the event data",
+];
+
+/// Why a call was refused with this number, in words.
+///
+/// ```
+/// assert_eq!(slp::refusal_words(8), "the start block is too short for the version, or over 65,535 bytes");
+/// ```
+pub fn refusal_words(number: u8) -> &'static str {
+	WORDS.get(usize::from(number)).copied().unwrap_or("for a reason that is not known here")
+}

@@ -1,0 +1,50 @@
+//! Each refusal of the writer with its number, and that it changes nothing.
+
+mod common;
+
+use common::Made;
+
+fn refused(change: impl Fn(&mut Made)) -> u8 {
+	let mut made = Made::new();
+	assert!(made.write().is_ok());
+	change(&mut made);
+	let mut out = [0xee; 5000];
+	let number = slp::write(&made.game, &made.stores(), &mut out).unwrap_err();
+	assert!(out.iter().all(|&byte| byte == 0xee), "refused {number}, and written to");
+	number
+}
+
+#[test]
+fn frames() {
+	assert_eq!(refused(|m| m.game.frames.version.patch = 1), 1);
+	assert_eq!(refused(|m| m.game.frames.counts.items = 4_194_305), 2);
+	assert_eq!(refused(|m| m.ids.push(0)), 3);
+	assert_eq!(refused(|m| m.posts[0] = 256), 4);
+	assert_eq!(refused(|m| m.item_offsets[0] = 1), 5);
+	assert_eq!(refused(|m| m.presence.push(0)), 6);
+	assert_eq!(refused(|m| m.game.frames.ports[0].port = 4), 7);
+}
+
+#[test]
+fn the_rest() {
+	assert_eq!(refused(|m| m.block.truncate(759)), 8);
+	assert_eq!(refused(|m| m.game.start.is_pal.given = 0), 9);
+	assert_eq!(refused(|m| (m.game.codes_given, m.game.actual_size) = (1, 1)), 10);
+	assert_eq!(refused(|m| m.game.end.initiator = 4), 11);
+	let made = Made::new();
+	let short = made.write().unwrap().len() - 1;
+	assert_eq!(slp::write(&made.game, &made.stores(), &mut vec![0; short]), Err(12));
+}
+
+#[test]
+fn the_lowest_number_is_given() {
+	assert_eq!(refused(|m| (m.game.end.initiator, m.presence) = (4, vec![])), 6);
+}
+
+#[test]
+fn every_number_has_words() {
+	let words: Vec<&str> = (0..=18).map(slp::refusal_words).collect();
+	let unknown = words[18];
+	assert!(words[..18].iter().all(|&w| w != unknown));
+	assert_eq!(slp::refusal_words(255), unknown);
+}

@@ -1,0 +1,40 @@
+#!/bin/sh
+# What is said in several places must be said in the same words: the refusals in docs/API.md and include/slp.h; their short words in the tool and in
+# the Rust crate; the test programs and their list; the version of the library and of the crate.
+set -eu
+cd "$(dirname "$0")/.."
+to=target/agree
+mkdir -p $to
+checked=0
+
+# Two lists that must be the same: agree WHAT ONE OTHER
+agree() {
+	[ -s "$to/$2" ] || { echo "agree: nothing found of $1" >&2; exit 1; }
+	diff -u "$to/$2" "$to/$3" || { echo "agree: $1 differ" >&2; exit 1; }
+	checked=$((checked + $(wc -l <"$to/$2")))
+}
+
+# 'NUMBER TEXT': in the header a refusal's comment stands before its name. The program's own refusal, 18, is not the library's.
+sed -n '/^## Refusals/,/^## `/s/^| \([0-9]*\) | \(.*\) |$/\1 \2/p' docs/API.md | grep -v '^18 ' >$to/api
+awk '/^\/\* ---- refusals/ { on = 1 } /^\/\* ---- maxima/ { on = 0 }
+	on && /^\t(\/\*| \*)/ { gsub(/^\t(\/\*| \*) *| *\*\/$/, ""); text = text (text ? " " : "") $0 }
+	on && /^\tSLP_[A-Z_]* = [1-9]/ { gsub(/,/, "", $3); print $3, text; text = "" }' include/slp.h >$to/header
+agree 'the refusals of docs/API.md and include/slp.h' api header
+
+# 'NUMBER WORDS'
+sed -n 's/^\t\(SLP_[A-Z_]*\) = \([0-9]*\),\{0,1\}$/\1 \2/p' include/slp.h >$to/names
+sed -n 's/^\t\[\(SLP_[A-Z_]*\)\] = \(".*"\),$/\1 \2/p' tools/words.c |
+	awk 'NR == FNR { number[$1] = $2; next } { name = $1; $1 = ""; print number[name] $0 }' $to/names - >$to/tool
+sed -n '/^const WORDS/,/^];/s/^\t\(".*"\),$/\1/p' rust/slp/src/refusals.rs | awk '{ print NR - 1, $0 }' >$to/crate
+agree 'the words of tools/words.c and rust/slp' tool crate
+
+for program in tests/c/programs/*.c*; do
+	basename "${program%.*}"
+done | sort >$to/programs
+sed -n '/^| program /,/^$/s/^| \([a-z_, ]*\) |.*/\1/p' tests/c/README.md | tr -d ' ' | tr ',' '\n' | grep -Fx -f $to/programs | sort >$to/listed
+agree 'the programs of tests/c and its README.md' programs listed
+
+sed -n 's/^VERSION := //p' Makefile >$to/version
+sed -n 's/^version = "\(.*\)"/\1/p' rust/slp/Cargo.toml >$to/crate-version
+agree 'the versions of Makefile and rust/slp' version crate-version
+echo "agree: $checked lines said the same in two places"
