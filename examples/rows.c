@@ -6,8 +6,7 @@
 #include <stdio.h>
 #include <string.h>
 
-/* Columns of Pre and Post at 2.0.0, and two of those of Post. */
-enum { FRAMES = 2, PRE_COLUMNS = 16, POST_COLUMNS = 22, PERCENT = 5, STOCKS = 10 };
+enum { FRAMES = 2 };
 
 static uint32_t bits(float value)
 {
@@ -19,13 +18,18 @@ static uint32_t bits(float value)
 int main(void)
 {
 	const uint32_t ids[FRAMES] = { 0, 1 };
-	static uint32_t pres[PRE_COLUMNS * FRAMES], posts[POST_COLUMNS * FRAMES];
+	/* room for the columns of any version */
+	static uint32_t pres[SLP_PRE_COLUMNS * FRAMES], posts[SLP_POST_COLUMNS * FRAMES];
 	for (int frame = 0; frame < FRAMES; frame++) {
-		posts[PERCENT * FRAMES + frame] = bits(12.5f * (float)frame);
-		posts[STOCKS * FRAMES + frame] = 4;
+		posts[SLP_POST_PERCENT * FRAMES + frame] = bits(12.5f * (float)frame);
+		posts[SLP_POST_STOCKS * FRAMES + frame] = 4;
 	}
 	slp_frames frames = { .version = { 2, 0, 0 }, .counts = { .frames = FRAMES }, .ports = { { .port = 2 } }, .port_count = 1 };
-	slp_stores stores = { .ids = { ids, FRAMES }, .pres = { pres, PRE_COLUMNS * FRAMES }, .posts = { posts, POST_COLUMNS * FRAMES } };
+	slp_stores stores = {
+		.ids = { ids, FRAMES },
+		.pres = { pres, slp_columns(frames.version, SLP_FAMILY_PRE) * FRAMES },
+		.posts = { posts, slp_columns(frames.version, SLP_FAMILY_POST) * FRAMES },
+	};
 	for (size_t i = 0; i <= FRAMES; i++) {
 		slp_frame_answer a = slp_frame_row(frames, SLP_STORES(&stores), i);
 		const slp_post *post = &a.row.ports[0].leader.post;

@@ -29,13 +29,11 @@ int main(int argc, char **argv)
 		fprintf(stderr, "usage: walk_file REPLAY\n");
 		return 2;
 	}
-	if (len > 16) {
-		size_t place = 16 + (size_t)file[16];
-		slp_step s;
-		while ((s = slp_step_at(file, len, place)).kind == SLP_STEP_EVENT) {
-			printf("%02x at %zu, %zu bytes\n", s.code, s.at, s.len);
-			place = s.next;
-		}
+	size_t place = slp_first_place(file, len);
+	slp_step s;
+	while ((s = slp_step_at(file, len, place)).kind == SLP_STEP_EVENT) {
+		printf("%02x at %zu, %zu bytes\n", s.code, s.at, s.len);
+		place = s.next;
 	}
 	slp_walked w = slp_walk(file, len);
 	if (w.refused)

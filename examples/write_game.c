@@ -18,7 +18,7 @@ static slp_written smallest(uint8_t *out, size_t room)
 /* One frame of one player at 3.18.0, and an end. All cells are zero; a real game fills them column by column. */
 static slp_written one_frame(uint8_t *out, size_t room)
 {
-	static const uint32_t cells[32];
+	static const uint32_t cells[SLP_POST_COLUMNS];
 	static const uint8_t block[760];
 	const uint32_t ids[1] = { (uint32_t)SLP_FIRST_FRAME_ID }, offsets[2] = { 0, 0 };
 	slp_game game = {
@@ -27,7 +27,8 @@ static slp_written one_frame(uint8_t *out, size_t room)
 		.end = { .given = 1, .method = 2, .initiator = 255 },
 	};
 	slp_stores stores = {
-		.ids = { ids, 1 }, .starts = { cells, 2 }, .pres = { cells, 19 }, .posts = { cells, 32 }, .ends = { cells, 1 },
+		.ids = { ids, 1 }, .starts = { cells, SLP_FRAME_START_COLUMNS }, .pres = { cells, SLP_PRE_COLUMNS },
+		.posts = { cells, SLP_POST_COLUMNS }, .ends = { cells, SLP_FRAME_END_COLUMNS },
 		.item_offsets = { offsets, 2 }, .fod_offsets = { offsets, 2 }, .whispy_offsets = { offsets, 2 }, .stadium_offsets = { offsets, 2 },
 	};
 	slp_bytes none = { NULL, 0 }, start = { block, sizeof block };

@@ -34,7 +34,8 @@ enum {
 	/* offsets: not frames + 1 entries, first not 0, one falls, or last not rows; or offsets or rows given to a family that the version
 	 * lacks */
 	SLP_BAD_OFFSETS = 5,
-	/* presence bits neither empty nor ceil(frames / 8) bytes */
+	/* presence: a slot's bits neither empty nor ceil(frames / 8) bytes, a follower's bits without a follower, or another total of bytes than the
+	 * slots' */
 	SLP_BAD_PRESENCE = 6,
 	/* over four port columns, a port above 3, or a port twice */
 	SLP_BAD_PORTS = 7,
@@ -108,11 +109,13 @@ typedef struct {
 	size_t next;       /* the place after it */
 } slp_step;
 
-/* The event at a place of a replay, whole or cut. The first event after the payload table stands at 16 + file[16], once the table is
- * whole; from there `next` leads on. Any number is taken as a place: one that is not in the event data is refused 17. Each call reads the table
- * anew; slp_walk reads it once. The example wants a file of over 16 bytes.
+/* Where the events of a replay start: after its payload table. Any file is taken; of one that is refused 14 or 15 the number means nothing. */
+size_t slp_first_place(const uint8_t *file, size_t file_len);
+
+/* The event at a place of a replay, whole or cut. The first event after the payload table stands at slp_first_place; from there `next` leads
+ * on. Any number is taken as a place: one that is not in the event data is refused 17. Each call reads the table anew; slp_walk reads it once.
  *
- *     size_t place = 16 + file[16];
+ *     size_t place = slp_first_place(file, len);
  *     slp_step s;
  *     while ((s = slp_step_at(file, len, place)).kind == SLP_STEP_EVENT) {
  *         printf("%02x at %zu, %zu bytes\n", s.code, s.at, s.len);
@@ -288,22 +291,134 @@ typedef struct {
  *   items, fods, whispys, stadiums    rows of items and of the stage families
  *   ..._offsets       frames + 1 numbers: frame i has the rows from offset i on and before offset i + 1; empty before the family's version
  *   presence          the slots' presence bytes one after another; bit i % 8 of byte i / 8, lowest first
- *
- * The columns, each with its width in bytes (a cell may not exceed it) and, if it is not the first, the version from which it is there:
- *   starts     random_seed 4; scene_frame_counter 4 (3.10). None before 2.2
- *   ends       latest_finalized_frame 4 (3.7)
- *   pres       random_seed 4, state 2, position 4 4, direction 4, joystick 4 4, cstick 4 4, triggers 4, buttons 4, buttons_physical 2,
- *              triggers_physical 4 4; raw_analog_x 1 (1.2); percent 4 (1.4); raw_analog_y 1 (3.15); raw_analog_cstick 1 1 (3.17)
- *   posts      character 1, state 2, position 4 4, direction 4, percent 4, shield 4, last_attack_landed 1, combo_count 1, last_hit_by 1,
- *              stocks 1; state_age 4 (0.2); state_flags 1 1 1 1 1, misc_as 4, airborne 1, ground 2, jumps 1, l_cancel 1 (2.0);
- *              hurtbox_state 1 (2.1); velocities 4 4 4 4 4 (3.5); hitlag 4 (3.8); animation_index 4 (3.11);
- *              last_hit_by_instance 2, instance_id 2 (3.16)
- *   items      type 2, state 1, direction 4, velocity 4 4, position 4 4, damage 2, timer 4, id 4; misc 1 1 1 1 (3.2); owner 1 (3.6);
- *              instance_id 2 (3.16). None before 3.0
- *   fods       platform 1, height 4. None before 3.18
- *   whispys    direction 1. None before 3.18
- *   stadiums   event 2, type 2. None before 3.18
  */
+
+/* The families of records, in the order of their stores. */
+enum {
+	SLP_FAMILY_FRAME_START = 0,               /* starts, from 2.2 */
+	SLP_FAMILY_PRE = 1,                       /* pres */
+	SLP_FAMILY_POST = 2,                      /* posts */
+	SLP_FAMILY_FRAME_END = 3,                 /* ends, from 3.0 */
+	SLP_FAMILY_ITEM = 4,                      /* items, from 3.0 */
+	SLP_FAMILY_FOD_PLATFORM = 5,              /* fods, from 3.18 */
+	SLP_FAMILY_DREAMLAND_WHISPY = 6,          /* whispys, from 3.18 */
+	SLP_FAMILY_STADIUM_TRANSFORMATION = 7     /* stadiums, from 3.18 */
+};
+
+/* How many columns a store of a family has in a version, ids not among them. 0 where the version lacks the family, and for any other number.
+ *
+ *     size_t cells = slp_columns(game.frames.version, SLP_FAMILY_POST) * game.frames.counts.frames;    // of one slot
+ */
+size_t slp_columns(slp_version version, uint8_t family);
+
+/* The columns of each family by their numbers: a column's cells begin at its number times the rows. Behind each stands its width in bytes, which a
+ * cell may not exceed, and the version from which it is there; a version has the columns up to some number. ..._COLUMNS are those of the newest. */
+enum {
+	SLP_FRAME_START_RANDOM_SEED,              /* 4, from 2.2 */
+	SLP_FRAME_START_SCENE_FRAME_COUNTER,      /* 4, from 3.10 */
+	SLP_FRAME_START_COLUMNS
+};
+
+enum {
+	SLP_PRE_RANDOM_SEED,                      /* 4 */
+	SLP_PRE_STATE,                            /* 2 */
+	SLP_PRE_POSITION_X,                       /* 4 */
+	SLP_PRE_POSITION_Y,                       /* 4 */
+	SLP_PRE_DIRECTION,                        /* 4 */
+	SLP_PRE_JOYSTICK_X,                       /* 4 */
+	SLP_PRE_JOYSTICK_Y,                       /* 4 */
+	SLP_PRE_CSTICK_X,                         /* 4 */
+	SLP_PRE_CSTICK_Y,                         /* 4 */
+	SLP_PRE_TRIGGERS,                         /* 4 */
+	SLP_PRE_BUTTONS,                          /* 4 */
+	SLP_PRE_BUTTONS_PHYSICAL,                 /* 2 */
+	SLP_PRE_TRIGGERS_PHYSICAL_L,              /* 4 */
+	SLP_PRE_TRIGGERS_PHYSICAL_R,              /* 4 */
+	SLP_PRE_RAW_ANALOG_X,                     /* 1, from 1.2 */
+	SLP_PRE_PERCENT,                          /* 4, from 1.4 */
+	SLP_PRE_RAW_ANALOG_Y,                     /* 1, from 3.15 */
+	SLP_PRE_RAW_ANALOG_CSTICK_X,              /* 1, from 3.17 */
+	SLP_PRE_RAW_ANALOG_CSTICK_Y,              /* 1, from 3.17 */
+	SLP_PRE_COLUMNS
+};
+
+enum {
+	SLP_POST_CHARACTER,                       /* 1 */
+	SLP_POST_STATE,                           /* 2 */
+	SLP_POST_POSITION_X,                      /* 4 */
+	SLP_POST_POSITION_Y,                      /* 4 */
+	SLP_POST_DIRECTION,                       /* 4 */
+	SLP_POST_PERCENT,                         /* 4 */
+	SLP_POST_SHIELD,                          /* 4 */
+	SLP_POST_LAST_ATTACK_LANDED,              /* 1 */
+	SLP_POST_COMBO_COUNT,                     /* 1 */
+	SLP_POST_LAST_HIT_BY,                     /* 1 */
+	SLP_POST_STOCKS,                          /* 1 */
+	SLP_POST_STATE_AGE,                       /* 4, from 0.2 */
+	SLP_POST_STATE_FLAGS_0,                   /* 1, from 2.0 */
+	SLP_POST_STATE_FLAGS_1,                   /* 1, from 2.0 */
+	SLP_POST_STATE_FLAGS_2,                   /* 1, from 2.0 */
+	SLP_POST_STATE_FLAGS_3,                   /* 1, from 2.0 */
+	SLP_POST_STATE_FLAGS_4,                   /* 1, from 2.0 */
+	SLP_POST_MISC_AS,                         /* 4, from 2.0 */
+	SLP_POST_AIRBORNE,                        /* 1, from 2.0 */
+	SLP_POST_GROUND,                          /* 2, from 2.0 */
+	SLP_POST_JUMPS,                           /* 1, from 2.0 */
+	SLP_POST_L_CANCEL,                        /* 1, from 2.0 */
+	SLP_POST_HURTBOX_STATE,                   /* 1, from 2.1 */
+	SLP_POST_VELOCITIES_SELF_X_AIR,           /* 4, from 3.5 */
+	SLP_POST_VELOCITIES_SELF_Y,               /* 4, from 3.5 */
+	SLP_POST_VELOCITIES_KNOCKBACK_X,          /* 4, from 3.5 */
+	SLP_POST_VELOCITIES_KNOCKBACK_Y,          /* 4, from 3.5 */
+	SLP_POST_VELOCITIES_SELF_X_GROUND,        /* 4, from 3.5 */
+	SLP_POST_HITLAG,                          /* 4, from 3.8 */
+	SLP_POST_ANIMATION_INDEX,                 /* 4, from 3.11 */
+	SLP_POST_LAST_HIT_BY_INSTANCE,            /* 2, from 3.16 */
+	SLP_POST_INSTANCE_ID,                     /* 2, from 3.16 */
+	SLP_POST_COLUMNS
+};
+
+enum {
+	SLP_FRAME_END_LATEST_FINALIZED_FRAME,     /* 4, from 3.7 */
+	SLP_FRAME_END_COLUMNS
+};
+
+enum {
+	SLP_ITEM_TYPE,                            /* 2, from 3.0 */
+	SLP_ITEM_STATE,                           /* 1, from 3.0 */
+	SLP_ITEM_DIRECTION,                       /* 4, from 3.0 */
+	SLP_ITEM_VELOCITY_X,                      /* 4, from 3.0 */
+	SLP_ITEM_VELOCITY_Y,                      /* 4, from 3.0 */
+	SLP_ITEM_POSITION_X,                      /* 4, from 3.0 */
+	SLP_ITEM_POSITION_Y,                      /* 4, from 3.0 */
+	SLP_ITEM_DAMAGE,                          /* 2, from 3.0 */
+	SLP_ITEM_TIMER,                           /* 4, from 3.0 */
+	SLP_ITEM_ID,                              /* 4, from 3.0 */
+	SLP_ITEM_MISC_0,                          /* 1, from 3.2 */
+	SLP_ITEM_MISC_1,                          /* 1, from 3.2 */
+	SLP_ITEM_MISC_2,                          /* 1, from 3.2 */
+	SLP_ITEM_MISC_3,                          /* 1, from 3.2 */
+	SLP_ITEM_OWNER,                           /* 1, from 3.6 */
+	SLP_ITEM_INSTANCE_ID,                     /* 2, from 3.16 */
+	SLP_ITEM_COLUMNS
+};
+
+enum {
+	SLP_FOD_PLATFORM_PLATFORM,                /* 1, from 3.18 */
+	SLP_FOD_PLATFORM_HEIGHT,                  /* 4, from 3.18 */
+	SLP_FOD_PLATFORM_COLUMNS
+};
+
+enum {
+	SLP_DREAMLAND_WHISPY_DIRECTION,           /* 1, from 3.18 */
+	SLP_DREAMLAND_WHISPY_COLUMNS
+};
+
+enum {
+	SLP_STADIUM_TRANSFORMATION_EVENT,         /* 2, from 3.18 */
+	SLP_STADIUM_TRANSFORMATION_TYPE,          /* 2, from 3.18 */
+	SLP_STADIUM_TRANSFORMATION_COLUMNS
+};
 
 /* The parameters of the fourteen lent stores, as they stand in the calls below: for each a pointer and a count. */
 #define SLP_STORE_PARAMETERS \
@@ -515,6 +630,7 @@ typedef struct {
 } slp_range;
 
 typedef struct {
+	slp_version version;
 	int32_t id;
 	size_t port_count;
 	slp_port_data ports[4];   /* in the order of the port columns; the rest is all 0 */

@@ -1,6 +1,7 @@
 #!/bin/sh
 # What is said in several places must be said in the same words: the refusals in docs/API.md and include/slp.h; their short words in the tool and in
-# the Rust crate; the test programs and their list; the version of the library and of the crate.
+# the Rust crate; the columns in their definition, in the header and in the crate; the test programs and their list; the version of the library and
+# of the crate.
 set -eu
 cd "$(dirname "$0")/.."
 to=target/agree
@@ -27,6 +28,24 @@ sed -n 's/^\t\[\(SLP_[A-Z_]*\)\] = \(".*"\),$/\1 \2/p' tools/words.c |
 	awk 'NR == FNR { number[$1] = $2; next } { name = $1; $1 = ""; print number[name] $0 }' $to/names - >$to/tool
 sed -n '/^const WORDS/,/^];/s/^\t\(".*"\),$/\1/p' rust/slp/src/refusals.rs | awk '{ print NR - 1, $0 }' >$to/crate
 agree 'the words of tools/words.c and rust/slp' tool crate
+
+# 'FAMILY NAME WIDTH VERSION' of every column, as the definition has them; in the crate without width and version. The header has its families in
+# another order, so they are sorted; the columns of each stay as they stand.
+awk '/^columnsOf .* =$/ { family = $2; gsub(/[A-Z]/, "_&", family); family = toupper(substr(family, 2)) }
+	/^    col / { name = toupper($NF); gsub(/\./, "_", name); print family, name, $2, $3 "." $4 }' crates/layout/specs/Columns.antt |
+	sort -s -k1,1 >$to/columns
+awk 'NR == FNR { families[$1]; next }
+	/^\tSLP_[A-Z0-9_]*, *\/\* [124](, from [0-9.]*)? \*\/$/ {
+		name = substr($1, 5, length($1) - 5); best = ""
+		for (f in families) if (index(name, f "_") == 1 && length(f) > length(best)) best = f
+		since = $4 == "from" ? $5 : "0.0"; width = $3; sub(/,/, "", width)
+		print best, substr(name, length(best) + 2), width, since
+	}' $to/columns include/slp.h | sort -s -k1,1 >$to/header-columns
+agree 'the columns of layout/specs/Columns.antt and include/slp.h' columns header-columns
+awk '/^columns! \{/ { on = 1; next } /^}/ { on = 0 } on && /^\t[a-z_]*:$/ { family = toupper(substr($1, 1, length($1) - 1)); next }
+	on && !/\/\/\// { for (i = 1; i <= NF; i++) print family, $i }' rust/slp/src/columns.rs | sort -s -k1,1 >$to/crate-columns
+cut -d' ' -f1,2 $to/columns >$to/column-names
+agree 'the columns of layout/specs/Columns.antt and rust/slp' column-names crate-columns
 
 for program in tests/c/programs/*.c*; do
 	basename "${program%.*}"

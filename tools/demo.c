@@ -9,20 +9,16 @@
 /* Of 64 frames four repeat an earlier id, after a rollback. An item is there in twelve of them. */
 enum { FRAMES = 64, REPEATED_FROM = 40, REPEATED = 4, ITEM_FROM = 20, ITEM_ROWS = 12, SLOTS = 2, ROOM = 65536 };
 
-enum { START_COLUMNS = 2, PRE_COLUMNS = 19, POST_COLUMNS = 32, END_COLUMNS = 1, ITEM_COLUMNS = 16, BLOCK = 760 };
-
-/* The columns that the game moves; all others are zero. */
-enum { PRE_STATE = 1, PRE_X = 2, PRE_Y, PRE_DIRECTION, PRE_JOYSTICK_X };
-enum { POST_CHARACTER, POST_STATE, POST_X, POST_Y, POST_DIRECTION, POST_PERCENT, POST_SHIELD, POST_STOCKS = 10 };
-enum { ITEM_TYPE, ITEM_STATE, ITEM_DIRECTION, ITEM_VELOCITY_X, ITEM_X = 5, ITEM_Y, ITEM_ID = 9 };
+/* The length of the newest version's start block. */
+enum { BLOCK = 760 };
 
 /* Characters have one number when they are chosen and another in the game. */
 enum { CHOSEN_FOX = 2, CHOSEN_MARTH = 9, FOX = 1, MARTH = 18, FOX_LASER = 0x36, FINAL_DESTINATION = 32, WALKING = 17, STANDING = 14 };
 
 typedef struct {
-	uint32_t ids[FRAMES], starts[START_COLUMNS * FRAMES], ends[END_COLUMNS * FRAMES];
-	uint32_t pres[SLOTS * PRE_COLUMNS * FRAMES], posts[SLOTS * POST_COLUMNS * FRAMES];
-	uint32_t items[ITEM_COLUMNS * ITEM_ROWS], item_offsets[FRAMES + 1], no_offsets[FRAMES + 1];
+	uint32_t ids[FRAMES], starts[SLP_FRAME_START_COLUMNS * FRAMES], ends[SLP_FRAME_END_COLUMNS * FRAMES];
+	uint32_t pres[SLOTS * SLP_PRE_COLUMNS * FRAMES], posts[SLOTS * SLP_POST_COLUMNS * FRAMES];
+	uint32_t items[SLP_ITEM_COLUMNS * ITEM_ROWS], item_offsets[FRAMES + 1], no_offsets[FRAMES + 1];
 	uint8_t block[BLOCK];
 } cells;
 
@@ -45,29 +41,29 @@ static uint32_t id_of(int i)
 	return (uint32_t)(SLP_FIRST_FRAME_ID + (i < REPEATED_FROM ? i : i - REPEATED));
 }
 
-/* Player 0 walks to the right and player 1 stands. */
+/* Player 0 walks to the right and player 1 stands. Cells that are not filled are zero. */
 static void fill_player(cells *c, int slot, int i)
 {
-	uint32_t *pre = c->pres + slot * PRE_COLUMNS * FRAMES + i, *post = c->posts + slot * POST_COLUMNS * FRAMES + i;
+	uint32_t *pre = c->pres + slot * SLP_PRE_COLUMNS * FRAMES + i, *post = c->posts + slot * SLP_POST_COLUMNS * FRAMES + i;
 	float x = slot ? 40.0f : -40.0f + (float)i, direction = slot ? -1.0f : 1.0f;
-	pre[PRE_STATE * FRAMES] = post[POST_STATE * FRAMES] = slot ? STANDING : WALKING;
-	pre[PRE_X * FRAMES] = post[POST_X * FRAMES] = bits(x);
-	pre[PRE_DIRECTION * FRAMES] = post[POST_DIRECTION * FRAMES] = bits(direction);
-	pre[PRE_JOYSTICK_X * FRAMES] = bits(slot ? 0.0f : 1.0f);
-	post[POST_CHARACTER * FRAMES] = slot ? MARTH : FOX;
-	post[POST_SHIELD * FRAMES] = bits(60.0f);
-	post[POST_STOCKS * FRAMES] = 4;
+	pre[SLP_PRE_STATE * FRAMES] = post[SLP_POST_STATE * FRAMES] = slot ? STANDING : WALKING;
+	pre[SLP_PRE_POSITION_X * FRAMES] = post[SLP_POST_POSITION_X * FRAMES] = bits(x);
+	pre[SLP_PRE_DIRECTION * FRAMES] = post[SLP_POST_DIRECTION * FRAMES] = bits(direction);
+	pre[SLP_PRE_JOYSTICK_X * FRAMES] = bits(slot ? 0.0f : 1.0f);
+	post[SLP_POST_CHARACTER * FRAMES] = slot ? MARTH : FOX;
+	post[SLP_POST_SHIELD * FRAMES] = bits(60.0f);
+	post[SLP_POST_STOCKS * FRAMES] = 4;
 }
 
 static void fill_item(cells *c, int row)
 {
 	uint32_t *item = c->items + row;
-	item[ITEM_TYPE * ITEM_ROWS] = FOX_LASER;
-	item[ITEM_DIRECTION * ITEM_ROWS] = bits(1.0f);
-	item[ITEM_VELOCITY_X * ITEM_ROWS] = bits(5.0f);
-	item[ITEM_X * ITEM_ROWS] = bits(-15.0f + 5.0f * (float)row);
-	item[ITEM_Y * ITEM_ROWS] = bits(8.0f);
-	item[ITEM_ID * ITEM_ROWS] = 1;
+	item[SLP_ITEM_TYPE * ITEM_ROWS] = FOX_LASER;
+	item[SLP_ITEM_DIRECTION * ITEM_ROWS] = bits(1.0f);
+	item[SLP_ITEM_VELOCITY_X * ITEM_ROWS] = bits(5.0f);
+	item[SLP_ITEM_POSITION_X * ITEM_ROWS] = bits(-15.0f + 5.0f * (float)row);
+	item[SLP_ITEM_POSITION_Y * ITEM_ROWS] = bits(8.0f);
+	item[SLP_ITEM_ID * ITEM_ROWS] = 1;
 }
 
 static uint32_t item_offset(int i)
@@ -80,8 +76,8 @@ static void fill(cells *c)
 {
 	for (int i = 0; i < FRAMES; i++) {
 		c->ids[i] = c->ends[i] = id_of(i);
-		c->starts[i] = 0x12345678u + 0x9e3779b9u * (uint32_t)i;
-		c->starts[FRAMES + i] = (uint32_t)i;
+		c->starts[SLP_FRAME_START_RANDOM_SEED * FRAMES + i] = 0x12345678u + 0x9e3779b9u * (uint32_t)i;
+		c->starts[SLP_FRAME_START_SCENE_FRAME_COUNTER * FRAMES + i] = (uint32_t)i;
 		for (int slot = 0; slot < SLOTS; slot++)
 			fill_player(c, slot, i);
 	}
@@ -131,9 +127,9 @@ static slp_stores stores_of(const cells *c)
 {
 	slp_cells none = { c->no_offsets, FRAMES + 1 };
 	return (slp_stores){
-		.ids = { c->ids, FRAMES }, .starts = { c->starts, START_COLUMNS * FRAMES }, .ends = { c->ends, END_COLUMNS * FRAMES },
-		.pres = { c->pres, SLOTS * PRE_COLUMNS * FRAMES }, .posts = { c->posts, SLOTS * POST_COLUMNS * FRAMES },
-		.items = { c->items, ITEM_COLUMNS * ITEM_ROWS }, .item_offsets = { c->item_offsets, FRAMES + 1 },
+		.ids = { c->ids, FRAMES }, .starts = { c->starts, SLP_FRAME_START_COLUMNS * FRAMES }, .ends = { c->ends, SLP_FRAME_END_COLUMNS * FRAMES },
+		.pres = { c->pres, SLOTS * SLP_PRE_COLUMNS * FRAMES }, .posts = { c->posts, SLOTS * SLP_POST_COLUMNS * FRAMES },
+		.items = { c->items, SLP_ITEM_COLUMNS * ITEM_ROWS }, .item_offsets = { c->item_offsets, FRAMES + 1 },
 		.fod_offsets = none, .whispy_offsets = none, .stadium_offsets = none,
 	};
 }

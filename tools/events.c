@@ -18,7 +18,7 @@ enum { STRIDE = 1 << 20 };
  * times slower than slp_walk, but it says what each event is. */
 static slp_step count_events(const content *c, tally *t)
 {
-	slp_step s = { .kind = SLP_STEP_EVENT, .next = c->len > 16 ? 16 + (size_t)c->bytes[16] : 0 };
+	slp_step s = { .kind = SLP_STEP_EVENT, .next = slp_first_place(c->bytes, c->len) };
 	while ((s = slp_step_at(c->bytes, c->len, s.next)).kind == SLP_STEP_EVENT) {
 		t->events[s.code]++;
 		if (s.next - t->counted >= STRIDE) {
@@ -36,13 +36,16 @@ static void print_row(uint8_t code, size_t events, size_t payload)
 	printf("%02x    %-21s  %10zu  %7zu  %12zu\n", code, name ? name : "?", events, payload, events * (1 + payload));
 }
 
+/* Where the table stands: a code, its own size, then three bytes an entry. */
+enum { TABLE = 15 };
+
 /* A row for each entry of the table, in its order. */
 static void print_table(const content *c, const tally *t)
 {
-	size_t first = 16 + (size_t)c->bytes[16], all = 1, bytes = 1 + (size_t)c->bytes[16];
+	size_t first = slp_first_place(c->bytes, c->len), all = 1, bytes = first - TABLE;
 	printf("%-4s  %-21s  %10s  %7s  %12s\n", "code", "event", "count", "payload", "bytes");
-	print_row(SLP_EVENT_PAYLOADS, 1, c->bytes[16]);
-	for (size_t at = 17; at < first; at += 3) {
+	print_row(SLP_EVENT_PAYLOADS, 1, first - TABLE - 1);
+	for (size_t at = TABLE + 2; at < first; at += 3) {
 		uint8_t code = c->bytes[at];
 		size_t payload = (size_t)c->bytes[at + 1] << 8 | c->bytes[at + 2];
 		print_row(code, t->events[code], payload);

@@ -5,6 +5,8 @@
 #include <string.h>
 
 slp_step real_slp_step_at(const uint8_t *file, size_t file_len, size_t place);
+size_t real_slp_columns(slp_version version, uint8_t family);
+size_t real_slp_first_place(const uint8_t *file, size_t file_len);
 slp_walked real_slp_walk(const uint8_t *file, size_t file_len);
 uint8_t real_slp_rollbacks(const uint32_t *ids, size_t ids_len, uint8_t keep, uint8_t *mask, size_t mask_len, uint8_t *scratch,
                            size_t scratch_len);
@@ -30,6 +32,25 @@ static void spoil(const void *p)
 {
 	if (p)
 		*(uint8_t *)(uintptr_t)p ^= 1;
+}
+
+size_t slp_columns(slp_version version, uint8_t family)
+{
+	if (faulty("columns-minor"))
+		version.minor = version.minor == 16 ? 15 : version.minor;
+	if (faulty("columns-family"))
+		family &= 127;
+	return real_slp_columns(version, family);
+}
+
+size_t slp_first_place(const uint8_t *file, size_t file_len)
+{
+	size_t place = real_slp_first_place(file, file_len);
+	if (faulty("first-place") && file_len > 16)
+		place = 16 + (size_t)file[16];
+	if (faulty("first-short") && file_len == 16)
+		place = 16;
+	return place;
 }
 
 slp_walked slp_walk(const uint8_t *file, size_t file_len)

@@ -6,7 +6,7 @@
 
 static void step_through(const uint8_t *file, size_t len)
 {
-	size_t place = 16 + file[16];
+	size_t place = slp_first_place(file, len);
 	slp_step s;
 	while ((s = slp_step_at(file, len, place)).kind == SLP_STEP_EVENT) {
 		printf("%02x at %zu, %zu bytes\n", s.code, s.at, s.len);
@@ -72,15 +72,25 @@ static void show_items(slp_game game, slp_stores stores, slp_frame frame)
 		use(slp_item_row(game.frames, SLP_STORES(&stores), frame.items.first + i).row);
 }
 
+static size_t post_cells(slp_game game)
+{
+	size_t cells = slp_columns(game.frames.version, SLP_FAMILY_POST) * game.frames.counts.frames;    // of one slot
+	return cells;
+}
+
 /* A frame at 3.0.0 with two players, whose stocks are 1 and 2, and two items, whose ids are 7 and 8. */
 static void show_rows(void)
 {
-	static const uint32_t ids[1], starts[1], pres[2 * 16], offsets[2] = { 0, 2 };
-	static const uint32_t posts[2 * 23] = { [5] = 0x42280000, [10] = 1, [23 + 10] = 2 }, items[10 * 2] = { [18] = 7, [19] = 8 };
+	static const uint32_t ids[1], starts[1], pres[2 * SLP_PRE_COLUMNS], offsets[2] = { 0, 2 };
+	static const uint32_t items[SLP_ITEM_COLUMNS * 2] = { [SLP_ITEM_ID * 2] = 7, [SLP_ITEM_ID * 2 + 1] = 8 };
+	static uint32_t posts[2 * SLP_POST_COLUMNS] = { [SLP_POST_PERCENT] = 0x42280000, [SLP_POST_STOCKS] = 1 };
 	slp_game game = { .frames = { .version = { 3, 0, 0 }, .counts = { .frames = 1, .items = 2 }, .ports = { { .port = 3 }, { .port = 1 } },
 	                              .port_count = 2 } };
-	slp_stores stores = { .ids = { ids, 1 }, .starts = { starts, 1 }, .pres = { pres, 2 * 16 }, .posts = { posts, 2 * 23 },
-	                      .items = { items, 10 * 2 }, .item_offsets = { offsets, 2 } };
+	slp_version v = game.frames.version;
+	posts[post_cells(game) + SLP_POST_STOCKS] = 2;
+	slp_stores stores = { .ids = { ids, 1 }, .starts = { starts, 1 }, .pres = { pres, 2 * slp_columns(v, SLP_FAMILY_PRE) },
+	                      .posts = { posts, 2 * post_cells(game) }, .items = { items, 2 * slp_columns(v, SLP_FAMILY_ITEM) },
+	                      .item_offsets = { offsets, 2 } };
 	show_frame(game, stores);
 	show_post(game, stores);
 	show_items(game, stores, slp_frame_row(game.frames, SLP_STORES(&stores), 0).row);

@@ -13,30 +13,31 @@ use Rattle.wire.specs.Wire.{be, more, part, splice, ranged, tabulate, keep}
 use Rattle.format.specs.File.{entriesBytes, tableBytes, eventsBytes, fileOf}
 use Rattle.format.specs.FrameId.{placeOf}
 use Rattle.format.specs.Mark.{yes}
-use Rattle.format.specs.Refusal.{lowest, oneOf}
+use Rattle.format.specs.Refusal.{refuse, lowest, oneOf}
 use Rattle.format.specs.Version.{above, gteOf, acceptedOf}
 use Rattle.layout.specs.Columns.{columnsOf, chosen, sum, hasFamily}
 use Rattle.layout.specs.Payloads.{endSize, listed, payloadSize, entriesOf}
-use Rattle.frames.specs.Input.{portsOf, portSlots, portBytes, slotsFrom, slotsOf}
-use Rattle.frames.specs.Presence.{marked, countFrom, playersPresent}
-use Rattle.frames.specs.Judge.{tooMany, misfits, storesMisfit, columnsExceed, blocksExceed, exceeds, cellsExceed, falls, strays, given, misleads, offsetsMislead, uneven, portUneven, portsUneven, presenceWrong, portNumbers, twice, portsWrong, refusals}
+use Rattle.game.specs.Frames.{portsOf, portSlots, portBytes, slotsFrom, slotsOf}
+use Rattle.players.specs.Presence.{marked, countFrom, playersPresent, uneven, portUneven, portsUneven, presenceWrong}
+use Rattle.frames.specs.Judge.{tooMany, misfits, storesMisfit, columnsExceed, blocksExceed, exceeds, cellsExceed, falls, strays, leftOver, misleads, offsetsMislead, portNumbers, twice, portsWrong, refusals}
 use Rattle.start.specs.Length.{reached, lengthOf}
-use Rattle.start.specs.Refusal.{missing, tooLong, badSeat, badStart}
+use Rattle.start.specs.Refusal.{blockWrong, missing, tooLong, badSeat, badStart}
 use Rattle.patch.specs.Patch.{patched}
-use Rattle.start_block.specs.Block.{gameFields, seatsFields, modeFields, matchFields, fields, blockOf as startBlock}
-use Rattle.codes.specs.Blocks.{blockCount, used, lastFlag, codesWrong, codeEvents, blockOf as codeBlock}
-use Rattle.codes.specs.End.{endEvents, initiatorWrong, endWrong}
-use Rattle.codes.specs.Tail.{tailOf}
-use Rattle.events.specs.Events.{framesEvents}
+use Rattle.start.specs.Block.{gameFields, seatsFields, modeFields, matchFields, fields, startBlock}
+use Rattle.codes.specs.Blocks.{blockCount, used, lastFlag, codesWrong, codeEvents, codeBlock}
+use Rattle.ending.specs.End.{endEvents, endOf, initiatorWrong, endWrong}
+use Rattle.ending.specs.Tail.{tailOf}
+use Rattle.events.specs.Events.{framesEvents, frameEvents, oneEvent, rowEvents, playerEvents}
 use Rattle.events.specs.Length.{framesLength}
 use Rattle.rollback.specs.Mask.{occurs, maskOf, needed, allInRange, answerOf}
 use Rattle.format.proofs.Refusals.{lowest-before}
 use Rattle.layout.proofs.Laws.{both, both-left, both-right}
-use Rattle.de.specs.Table.{declared, startsWith, stopOf, allPresent, entriesIn, entriesOf as readEntries, spanOf, twice as readTwice, tableMissing, unsigned, untabled, headRefusal}
-use Rattle.de.specs.Step.{eventIn, stepIn, stepOf}
+use Rattle.head.specs.Table.{declared, startsWith, stopOf, allPresent, entriesIn, tableOf, spanOf, codeTwice, tableMissing, unsigned, untabled, headRefusal}
+use Rattle.head.specs.Step.{eventIn, stepIn, stepOf}
 use Rattle.de.specs.Walk.{run, walkOf}
-use Rattle.ser.specs.declared.game.Game.{Game}
-use Rattle.ser.specs.Write.{Stores, givenBytes, blockBad, judged, refusal, events, file}
+use Rattle.game.specs.declared.Game.{Game}
+use Rattle.game.specs.Stores.{Stores}
+use Rattle.ser.specs.Write.{givenBytes, judged, refusal, events, file}
 use Rattle.ser.specs.Length.{rawLength}
 use Rattle.ser.proofs.Files.{framed, length-raw}
 use Rattle.ser.proofs.Outcomes.{Passed, passes}
@@ -53,7 +54,7 @@ abbrev totalOf : Game → Stores → ℕ
 totalOf g s = 15 + (rawOf g s + cond (yes (g .«metadata_given»)) (13 + givenBytes (g .«metadata_given») (s .metadata)) 1)
 
 abbrev refusalIn : Game → Stores → ℕ → ℕ → ℕ
-refusalIn g s room total = lowest 1 (judged g s ++ (ltb room total ∷ []))
+refusalIn g s room total = lowest (judged g s ++ (refuse 12 (ltb room total) ∷ []))
 
 pub total-of : {g : Game} {s : Stores} → Passed g s → length (file g s) ≡ totalOf g s
 total-of {g} {s} p = total-is p (rawOf g s) refl _ (yes (g .«metadata_given»)) (givenBytes (g .«metadata_given») (s .metadata)) refl refl refl
@@ -68,14 +69,14 @@ refused-alike k a b c d = rw (eqb·suc-zero k)
 
 writes-as : (g : Game) (s : Stores) (room : ℕ) → writes g s room ≡ numbers (refusalIn g s room (totalOf g s)) (rawOf g s) (totalOf g s)
 unfolding refusal
-writes-as g s room = go (lowest 1 (judged g s)) refl
+writes-as g s room = go (lowest (judged g s)) refl
   where
-    go : (k : ℕ) → lowest 1 (judged g s) ≡ k → writes g s room ≡ numbers (refusalIn g s room (totalOf g s)) (rawOf g s) (totalOf g s)
+    go : (k : ℕ) → lowest (judged g s) ≡ k → writes g s room ≡ numbers (refusalIn g s room (totalOf g s)) (rawOf g s) (totalOf g s)
     go zero e =
         let p = passes g s e in
         ap₂ (λ (raw total : ℕ). numbers (refusalIn g s room total) raw total) (raw-of p) (total-of p)
     go (suc k) e =
-        let alike : (t : ℕ) → refusalIn g s room t ≡ suc k = λ t. lowest-before 1 (judged g s) (ltb room t ∷ []) (λ z. absurd (omega (arith, e, z))) ∙ e in
+        let alike : (t : ℕ) → refusalIn g s room t ≡ suc k = λ t. lowest-before (judged g s) (refuse 12 (ltb room t) ∷ []) (λ z. absurd (omega (arith, e, z))) ∙ e in
         ap (λ (n : ℕ). numbers n (declared (file g s)) (length (file g s))) (alike (length (file g s)))
         ∙ refused-alike k _ _ _ _
         ∙ sym (ap (λ (n : ℕ). numbers n (rawOf g s) (totalOf g s)) (alike (totalOf g s)))
@@ -119,7 +120,7 @@ allRight (c ∷ cs) = both (right c) (allRight cs)
 
 -- computed
 test : T (allRight cases)
-unfolding cases rawLength judged refusals lowest oneOf tooMany storesMisfit misfits cellsExceed exceeds blocksExceed columnsExceed offsetsMislead misleads strays given falls presenceWrong portsUneven portUneven uneven portsWrong portNumbers twice slotsOf slotsFrom portsOf portSlots portBytes marked countFrom playersPresent framesLength tabulate ranged keep sum chosen columnsOf hasFamily listed payloadSize entriesOf endSize acceptedOf above gteOf blockBad lengthOf reached badStart badSeat missing tooLong codesWrong codeEvents codeBlock blockCount used lastFlag endWrong initiatorWrong endEvents tailOf be more part splice entriesBytes tableBytes eventsBytes fileOf file events framesEvents startBlock fields gameFields seatsFields modeFields matchFields patched startsWith stopOf allPresent entriesIn readEntries spanOf readTwice tableMissing unsigned untabled headRefusal eventIn stepIn stepOf run walkOf placeOf occurs maskOf needed allInRange answerOf
+unfolding cases rawLength judged refusals lowest oneOf tooMany storesMisfit misfits cellsExceed exceeds blocksExceed columnsExceed offsetsMislead misleads strays leftOver falls presenceWrong portsUneven portUneven uneven portsWrong portNumbers twice slotsOf slotsFrom portsOf portSlots portBytes marked countFrom playersPresent framesLength tabulate ranged keep sum chosen columnsOf hasFamily listed payloadSize entriesOf endSize acceptedOf above gteOf blockWrong lengthOf reached badStart badSeat missing tooLong codesWrong codeEvents codeBlock blockCount used lastFlag endWrong initiatorWrong endEvents endOf tailOf be more part splice entriesBytes tableBytes eventsBytes fileOf file events framesEvents frameEvents oneEvent rowEvents playerEvents startBlock fields gameFields seatsFields modeFields matchFields patched startsWith stopOf allPresent entriesIn tableOf spanOf codeTwice tableMissing unsigned untabled headRefusal eventIn stepIn stepOf run walkOf placeOf occurs maskOf needed allInRange answerOf
 test = tt
 
 -- ---- any case

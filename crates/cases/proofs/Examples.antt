@@ -13,23 +13,24 @@ use Rattle.format.specs.Refusal.{lowest}
 use Rattle.format.specs.Version.{version, above, gteOf}
 use Rattle.layout.specs.Columns.{columnsOf, chosen, sum, hasFamily}
 use Rattle.layout.specs.Payloads.{endSize, listed, payloadSize, entriesOf}
-use Rattle.frames.specs.Input.{portsOf, portSlots, portBytes, slotsFrom, slotsOf}
-use Rattle.frames.specs.Presence.{marked}
-use Rattle.record.specs.Record.{cellsBytes, headBytes}
+use Rattle.game.specs.Frames.{portsOf, portSlots, portBytes, slotsFrom, slotsOf}
+use Rattle.players.specs.Presence.{marked}
+use Rattle.record.specs.Record.{cellsBytes}
+use Rattle.record.specs.Inner.{headBytes}
 use Rattle.patch.specs.Patch.{patched}
-use Rattle.start_block.specs.Block.{gameFields, seatsFields, modeFields, matchFields, fields, blockOf as startBlock}
+use Rattle.start.specs.Block.{gameFields, seatsFields, modeFields, matchFields, fields, startBlock}
 use Rattle.codes.specs.Blocks.{codeEvents}
-use Rattle.codes.specs.End.{endEvents, endOf, placementsOf, placementOf}
-use Rattle.codes.specs.Tail.{tailOf}
+use Rattle.ending.specs.End.{endEvents, endOf, placementsOf, placementOf}
+use Rattle.ending.specs.Tail.{tailOf}
 use Rattle.events.specs.Events.{framesEvents, frameEvents, oneEvent, rowEvents, playerEvents}
-use Rattle.de.specs.Table.{startsWith, stopOf, allPresent, entriesIn, entriesOf as readEntries, spanOf, twice as readTwice, tableMissing, unsigned, untabled, headRefusal}
-use Rattle.de.specs.Step.{eventIn, stepIn, stepOf}
+use Rattle.head.specs.Table.{startsWith, stopOf, allPresent, entriesIn, tableOf, spanOf, codeTwice, tableMissing, unsigned, untabled, headRefusal}
+use Rattle.head.specs.Step.{eventIn, stepIn, stepOf}
 use Rattle.de.specs.Walk.{run, walkOf}
 use Rattle.de.specs.Cut.{eventsRead}
 use Rattle.de.specs.declared.Walked.the-variants.{Done}
-use Rattle.rollback.specs.Mask.{answerOf, numberOf, maskAfter}
+use Rattle.rollback.specs.Mask.{answerOf, maskNumbers, maskAfter}
 use Rattle.rollback.specs.declared.frame.Rollbacks.the-variants.{ExceptFirst}
-use Rattle.ser.specs.declared.game.Game.{Game}
+use Rattle.game.specs.declared.Game.{Game}
 use Rattle.ser.specs.Write.{refusal, events, file}
 use Rattle.ser.proofs.Outcomes.{Passed, not-refused}
 use Rattle.cases.specs.Games.{gameOf, blockAlone, oneFrame}
@@ -48,7 +49,7 @@ passed = not-refused short (oneFrame []) 990 accepted
 -- ---- two games with different files of one length: 0.0.0 and 0.1.0, whose start blocks begin at byte 30 with the version
 
 abbrev oldest : Game
-oldest = gameOf (version 0 0 0) 0 0 0 0
+oldest = gameOf (version 0 0 0) 0 0 0 0 0
 
 abbrev block : List ℕ
 block = replicate 320 0
@@ -72,11 +73,11 @@ abbrev cutFile : List ℕ
 cutFile = take 900 (file short (oneFrame []))
 
 pub cut-events : (walkOf cutFile ≡ Done 3 12 false 888) × (map (λ (e : Ev). e .code) (eventsRead cutFile) ≡ 0x36 ∷ 0x3A ∷ 0x37 ∷ [])
-unfolding eventsRead file events fileOf tableBytes entriesBytes eventsBytes be entriesOf chosen listed payloadSize hasFamily gteOf above sum columnsOf endSize startBlock fields gameFields seatsFields modeFields matchFields patched splice codeEvents endEvents endOf placementsOf placementOf tailOf keep framesEvents ranged frameEvents oneEvent rowEvents playerEvents cellsBytes headBytes marked slotsOf slotsFrom portsOf portSlots portBytes tabulate part more lowest startsWith stopOf allPresent entriesIn readEntries spanOf readTwice tableMissing unsigned untabled headRefusal eventIn stepIn stepOf run walkOf
+unfolding eventsRead file events fileOf tableBytes entriesBytes eventsBytes be entriesOf chosen listed payloadSize hasFamily gteOf above sum columnsOf endSize startBlock fields gameFields seatsFields modeFields matchFields patched splice codeEvents endEvents endOf placementsOf placementOf tailOf keep framesEvents ranged frameEvents oneEvent rowEvents playerEvents cellsBytes headBytes marked slotsOf slotsFrom portsOf portSlots portBytes tabulate part more lowest startsWith stopOf allPresent entriesIn tableOf spanOf codeTwice tableMissing unsigned untabled headRefusal eventIn stepIn stepOf run walkOf
 cut-events = (refl, refl)
 
 -- ---- a mask that is written
 
-pub mask-written : numberOf (answerOf fourIds 4 3) ∷ maskAfter (answerOf fourIds 4 3) ExceptFirst fourIds (replicate 4 0) ≡ 0 ∷ 0 ∷ 0 ∷ 1 ∷ 0 ∷ []
+pub mask-written : maskNumbers (answerOf fourIds 4 3) .number ∷ maskAfter (answerOf fourIds 4 3) ExceptFirst fourIds (replicate 4 0) ≡ 0 ∷ 0 ∷ 0 ∷ 1 ∷ 0 ∷ []
 unfolding cases
 mask-written = case-holds 12 (lit< tt)

@@ -4,45 +4,16 @@ use Prim.Native.Nat.{ℕ}
 use mathlib.Core.List.{List, []}
 use lib.ListN.{replicate}
 use Rattle.format.specs.declared.version.Version.{Version}
-use Rattle.frames.specs.Input.{noPort}
-use Rattle.frames.specs.declared.input.Frames.{Frames}
-use Rattle.frames.specs.Stores.{cells, offsets, lent}
-use Rattle.start.specs.declared.game.Text.{Text}
-use Rattle.start.specs.declared.game.Optional.{Optional}
-use Rattle.start.specs.declared.game.Seat.{Seat}
-use Rattle.start.specs.declared.game.Start.{Start}
-use Rattle.codes.specs.declared.end.End.{End}
-use Rattle.ser.specs.declared.game.Game.{Game}
-use Rattle.ser.specs.Write.{Stores, stores}
-
-abbrev pub noText : Text
-noText = record { bytes = replicate 50 0; len = 0 }
-
--- nobody sits there; all texts alike
-abbrev pub seatWith : Text → Seat
-seatWith text = record {
-  given = 0;
-  character = 0;
-  kind = 0;
-  stocks = 0;
-  costume = 0;
-  team = record { given = 0; color = 0; shade = 0 };
-  handicap = 0;
-  bitfield = 0;
-  «cpu_level» = record { given = 0; value = 0 };
-  «damage_start» = 0;
-  «damage_spawn» = 0;
-  «offense_ratio» = 0;
-  «defense_ratio» = 0;
-  «model_scale» = 0;
-  ucf = record { given = 0; «dash_back» = 0; «shield_drop» = 0 };
-  «name_tag_given» = 0;
-  «name_tag» = text;
-  netplay = record { given = 0; name = text; code = text; «suid_given» = 0; suid = text };
-}
-
-abbrev pub noSeat : Seat
-noSeat = seatWith noText
+use Rattle.game.specs.Frames.{noPort}
+use Rattle.game.specs.declared.frames.Frames.{Frames}
+use Rattle.game.specs.Stores.{cells, offsets, lent, Stores, stores}
+use Rattle.game.specs.Zero.{noText, noSeat}
+use Rattle.game.specs.declared.start.Text.{Text}
+use Rattle.game.specs.declared.start.Optional.{Optional}
+use Rattle.game.specs.declared.start.Seat.{Seat}
+use Rattle.game.specs.declared.start.Start.{Start}
+use Rattle.game.specs.declared.end.End.{End}
+use Rattle.game.specs.declared.Game.{Game}
 
 -- a byte that is given
 abbrev pub zeroByte : Optional
@@ -76,13 +47,13 @@ plainStart = startWith noSeat noText
 abbrev pub plainEnd : ℕ → End
 plainEnd given = record { given = given; method = 0; initiator = 0xFF; placed = replicate 4 0; placements = replicate 4 0 }
 
--- so many frames, with a leader at port 0 where there are any
-abbrev pub plainFrames : Version → ℕ → Frames
-plainFrames v n = record {
+-- so many frames, and so many port columns: a leader at port 0 each
+abbrev pub plainFrames : Version → ℕ → ℕ → Frames
+plainFrames v frames ports = record {
   version = v;
-  counts = record { frames = n; items = 0; fods = 0; whispys = 0; stadiums = 0 };
+  counts = record { frames = frames; items = 0; fods = 0; whispys = 0; stadiums = 0 };
   ports = replicate 4 noPort;
-  «port_count» = n;
+  «port_count» = ports;
 }
 
 -- with an end or none, and with codes of some actual size, or none
@@ -97,9 +68,9 @@ gameWith frames start end given actual = record {
   «actual_size» = actual;
 }
 
--- a game of so many frames
-abbrev pub gameOf : Version → ℕ → ℕ → ℕ → ℕ → Game
-gameOf v n end given actual = gameWith (plainFrames v n) plainStart end given actual
+-- a game of so many frames and port columns
+abbrev pub gameOf : Version → ℕ → ℕ → ℕ → ℕ → ℕ → Game
+gameOf v frames ports end given actual = gameWith (plainFrames v frames ports) plainStart end given actual
 
 -- nothing is lent but a start block
 abbrev pub blockAlone : List ℕ → Stores

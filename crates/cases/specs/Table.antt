@@ -1,30 +1,30 @@
 -- The twelve cases: what is asked of the definitions that the public contracts cite, and the numbers that they must give.
 -- Assumes nothing.
-use Prim.Native.Nat.{ℕ, _-_}
+use Prim.Native.Nat.{ℕ}
 use mathlib.Core.List.{List, [], _∷_, _++_, map}
 use lib.Dec.{eqb}
 use lib.ListN.{length, getD, take, replicate}
 use Rattle.wire.specs.Wire.{number, part, keep}
 use Rattle.format.specs.Event.{codeOf}
-use Rattle.format.specs.File.{Ev}
-use Rattle.format.specs.Mark.{yes}
+use Rattle.format.specs.File.{Entry, Ev}
 use Rattle.format.specs.Version.{version}
-use Rattle.format.specs.declared.event.Event.the-variants.{GeckoCodes}
-use Rattle.codes.specs.Blocks.{codeEvents}
-use Rattle.rollback.specs.Mask.{answerOf, numberOf, maskAfter}
+use Rattle.format.specs.declared.event.Event.the-variants.{GeckoCodes, MessageSplitter}
+use Rattle.layout.specs.Columns.{chosen}
+use Rattle.rollback.specs.Mask.{answerOf, maskNumbers, maskAfter}
 use Rattle.rollback.specs.declared.frame.Rollbacks.{Rollbacks}
 use Rattle.rollback.specs.declared.frame.Rollbacks.the-variants.{ExceptFirst, ExceptLast}
-use Rattle.de.specs.Table.{declared, spanOf}
+use Rattle.head.specs.Table.{declared}
 use Rattle.de.specs.Walk.{walkOf}
 use Rattle.de.specs.Numbers.{WalkNumbers, walkNumbers}
-use Rattle.ser.specs.declared.game.Game.{Game}
-use Rattle.ser.specs.Write.{Stores, entries, file, refusal}
+use Rattle.game.specs.declared.Game.{Game}
+use Rattle.game.specs.Stores.{Stores}
+use Rattle.ser.specs.Write.{entries, events, file, refusal}
 use Rattle.cases.specs.Games.{gameOf, blockAlone, oneFrame}
 
 pub data Question : Type 0 where
   -- a game with its stores, written to an output of so many bytes
   writing : Game → Stores → ℕ → Question
-  -- the codes in its file: the size that the payload table declares for them, and how many blocks they are
+  -- the codes in its file: the size in their entry of the payload table, and how many blocks they are
   coding : Game → Stores → Question
   -- the length that each of the blocks has, and its flag
   blocking : Game → Stores → Question
@@ -40,8 +40,13 @@ numbers k raw total = k ∷ keep (eqb k 0) (raw ∷ total ∷ [])
 abbrev pub writes : Game → Stores → ℕ → List ℕ
 writes g s room = numbers (refusal g s room) (declared (file g s)) (length (file g s))
 
-abbrev pub blocksOf : Game → Stores → List Ev
-blocksOf g s = codeEvents (yes (g .«codes_given»)) (s .codes) (g .«actual_size»)
+-- the sizes in the entries of a code: none where the table does not list it
+abbrev pub sizesOf : ℕ → List Entry → List ℕ
+sizesOf code t = chosen (λ (e : Entry). eqb (e .code) code) (λ (e : Entry). e .size) t
+
+-- the code blocks among the file's events
+abbrev pub codeBlocksIn : Game → Stores → List Ev
+codeBlocksIn g s = chosen (λ (e : Ev). eqb (e .code) (codeOf MessageSplitter)) (λ (e : Ev). e) (events g s)
 
 -- after a block's 512 bytes stand its length in two bytes, a code, and its flag
 abbrev pub lengthIn : Ev → ℕ
@@ -56,12 +61,12 @@ listed w = w .number ∷ w .offset ∷ w .events ∷ w .stray ∷ w .whole ∷ w
 
 -- the refusal's number, 0 for none; then the mask as it is afterwards
 abbrev pub masks : Rollbacks → List ℕ → ℕ → ℕ → List ℕ
-masks kept ids m n = numberOf (answerOf ids m n) ∷ maskAfter (answerOf ids m n) kept ids (replicate m 0)
+masks kept ids m n = maskNumbers (answerOf ids m n) .number ∷ maskAfter (answerOf ids m n) kept ids (replicate m 0)
 
 abbrev pub answer : Question → List ℕ
 answer (writing g s room) = writes g s room
-answer (coding g s) = (spanOf (codeOf GeckoCodes) (entries g s) - 1) ∷ length (blocksOf g s) ∷ []
-answer (blocking g s) = map lengthIn (blocksOf g s) ++ map flagIn (blocksOf g s)
+answer (coding g s) = sizesOf (codeOf GeckoCodes) (entries g s) ++ (length (codeBlocksIn g s) ∷ [])
+answer (blocking g s) = map lengthIn (codeBlocksIn g s) ++ map flagIn (codeBlocksIn g s)
 answer (walking g s n) = listed (walkNumbers (walkOf (take n (file g s))))
 answer (masking kept ids m n) = masks kept ids m n
 
@@ -76,14 +81,14 @@ row n q xs = record { case = n; asked = q; expected = xs }
 
 -- 0.1.0 and nothing else
 abbrev pub least : Game
-least = gameOf (version 0 1 0) 0 0 0 0
+least = gameOf (version 0 1 0) 0 0 0 0 0
 
 -- 3.18.0 with one frame, one leader and an end; and with codes of this actual size
 abbrev pub short : Game
-short = gameOf (version 3 18 0) 1 1 0 0
+short = gameOf (version 3 18 0) 1 1 1 0 0
 
 abbrev pub coded : ℕ → Game
-coded actual = gameOf (version 3 18 0) 1 1 1 actual
+coded actual = gameOf (version 3 18 0) 1 1 1 1 actual
 
 -- -123 -122 -122 -121, as their bits
 abbrev pub fourIds : List ℕ
@@ -105,8 +110,8 @@ cases =
     ∷ row 9 (coding (coded 65536) (oneFrame (replicate 65536 0))) (0 ∷ 128 ∷ [])
     ∷ row 10 (masking ExceptFirst fourIds 4 3) (0 ∷ 0 ∷ 0 ∷ 1 ∷ 0 ∷ [])
     ∷ row 10 (masking ExceptLast fourIds 4 3) (0 ∷ 0 ∷ 1 ∷ 0 ∷ 0 ∷ [])
-    ∷ row 11 (writing (gameOf (version 3 18 0) 1 1 0 0) (oneFrame []) 990) (0 ∷ 974 ∷ 990 ∷ [])
-    ∷ row 11 (writing (gameOf (version 3 18 1) 1 1 0 0) (oneFrame []) 990) (1 ∷ [])
+    ∷ row 11 (writing (gameOf (version 3 18 0) 1 1 1 0 0) (oneFrame []) 990) (0 ∷ 974 ∷ 990 ∷ [])
+    ∷ row 11 (writing (gameOf (version 3 18 1) 1 1 1 0 0) (oneFrame []) 990) (1 ∷ [])
     ∷ row 12 (writing least (blockAlone (replicate 319 0)) 351) (8 ∷ [])
     ∷ []
 

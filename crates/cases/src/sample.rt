@@ -1,21 +1,22 @@
 // The games of the cases: all fields and cells 0, all marks of a start's own fields set.
 ghost use mathlib.Core.Path.{_≡_};
-ghost use Rattle.cases.specs.Games.{noText, noSeat, plainStart, plainFrames, gameOf};
-use codes::end::End;
+ghost use Rattle.game.specs.Zero.{noText, noSeat};
+ghost use Rattle.cases.specs.Games.{plainStart, plainFrames, gameOf};
 use format::version::Version;
-use frames::input::Counts;
-use frames::input::Frames;
-use frames::input::PortColumn;
-use ser::game::Game;
-use start::game::Match;
-use start::game::Netplay;
-use start::game::Optional;
-use start::game::Scene;
-use start::game::Seat;
-use start::game::Start;
-use start::game::Team;
-use start::game::Text;
-use start::game::Ucf;
+use game::Game;
+use game::end::End;
+use game::frames::Counts;
+use game::frames::Frames;
+use game::frames::PortColumn;
+use game::start::Match;
+use game::start::Netplay;
+use game::start::Optional;
+use game::start::Scene;
+use game::start::Seat;
+use game::start::Start;
+use game::start::Team;
+use game::start::Text;
+use game::start::Ucf;
 
 fn no_text() -> Text
     ensures { λ r. ⌜ r ≡ noText ⌝ }
@@ -101,9 +102,9 @@ fn plain_start() -> Start
     }
 }
 
-// Frames with a leader at port 0 where there are any.
-fn plain_frames(v: Version, frames: usize) -> Frames
-    ensures { λ r. ⌜ r ≡ plainFrames v frames ⌝ }
+// Each port column has a leader at port 0.
+fn plain_frames(v: Version, frames: usize, ports: usize) -> Frames
+    ensures { λ r. ⌜ r ≡ plainFrames v frames ports ⌝ }
 {
     let none = PortColumn {
         port: 0,
@@ -121,16 +122,16 @@ fn plain_frames(v: Version, frames: usize) -> Frames
             stadiums: 0,
         },
         ports: [none; 4],
-        port_count: frames,
+        port_count: ports,
     }
 }
 
-// A game of so many frames, with an end or none, and with codes of some actual size, or none.
-pub fn game(v: Version, frames: usize, end: u8, codes: u8, actual: u32) -> Game
-    ensures { λ r. ⌜ r ≡ gameOf v frames end codes actual ⌝ }
+// A game of so many frames and port columns, with an end or none, and with codes of some actual size, or none.
+pub fn game(v: Version, frames: usize, ports: usize, end: u8, codes: u8, actual: u32) -> Game
+    ensures { λ r. ⌜ r ≡ gameOf v frames ports end codes actual ⌝ }
 {
     Game {
-        frames: plain_frames(v, frames),
+        frames: plain_frames(v, frames, ports),
         start: plain_start(),
         end: End {
             given: end,

@@ -29,19 +29,19 @@ abbrev pub blockEnd : ℕ → ℕ → List ℕ
 blockEnd actual b = be 2 (used actual b) ++ (codeOf GeckoCodes ∷ lastFlag actual b ∷ [])
 
 -- block b
-unfoldable pub blockOf : List ℕ → ℕ → ℕ → Ev
-blockOf codes actual b = record {
+unfoldable pub codeBlock : List ℕ → ℕ → ℕ → Ev
+codeBlock codes actual b = record {
   code = codeOf MessageSplitter;
   payload = part codes (512 * b) 512 ++ blockEnd actual b;
 }
 
-abbrev pub blocksOf : List ℕ → ℕ → List Ev
-blocksOf codes actual = ranged (λ b. blockOf codes actual b ∷ []) 0 (blockCount actual)
+abbrev pub codeBlocks : List ℕ → ℕ → List Ev
+codeBlocks codes actual = ranged (λ b. codeBlock codes actual b ∷ []) 0 (blockCount actual)
 
 -- the blocks of codes that are given
 unfoldable pub codeEvents : Bool → List ℕ → ℕ → List Ev
-codeEvents given codes actual = keep given (blocksOf codes actual)
+codeEvents given codes actual = keep given (codeBlocks codes actual)
 
--- refusal 10: codes given before 3.3, or their bytes are not the actual size rounded up to 512
+-- 10: codes given before 3.3, or their bytes are not the actual size rounded up to 512
 unfoldable pub codesWrong : Version → Bool → List ℕ → ℕ → Bool
 codesWrong v given codes actual = given && (not (gteOf v 3 3) || not (eqb (length codes) (512 * blockCount actual)))

@@ -1,3 +1,1 @@
 pub mod Blocks
-pub mod End
-pub mod Tail

@@ -5,7 +5,7 @@ ghost use Prim.Native.Nat.{_*_, _<_, _≤_};
 ghost use lib.ListN.{length};
 ghost use Rattle.wire.specs.Wire.{Room, Wrote};
 ghost use Rattle.format.specs.File.{eventBytes, eventsBytes};
-ghost use Rattle.codes.specs.Blocks.{blockCount, used, lastFlag, blockEnd, blockOf, blocksOf, codeEvents, codesWrong};
+ghost use Rattle.codes.specs.Blocks.{blockCount, used, lastFlag, blockEnd, codeBlock, codeBlocks, codeEvents, codesWrong};
 use format::event::Event;
 use format::version::Version;
 
@@ -73,8 +73,8 @@ fn put_block_end(out: &mut [u8], at: usize, actual: u32, b: usize) -> usize
 fn put_block(out: &mut [u8], at: usize, codes: &[u8], actual: u32, b: usize) -> usize
     requires { ⌜ (b < blockCount actual)
         × (length (now codes) ≡ 512 * blockCount actual)
-        × Room (now out) at (eventBytes (blockOf (now codes) actual b)) ⌝ }
-    ensures { λ r. ⌜ Wrote (now (out .entry)) (now (out .exit)) at r (eventBytes (blockOf (now (codes .entry)) actual b)) ⌝ }
+        × Room (now out) at (eventBytes (codeBlock (now codes) actual b)) ⌝ }
+    ensures { λ r. ⌜ Wrote (now (out .entry)) (now (out .exit)) at r (eventBytes (codeBlock (now (codes .entry)) actual b)) ⌝ }
 {
     let from = 512 * b;
     let to = from + 512;
@@ -85,8 +85,8 @@ fn put_block(out: &mut [u8], at: usize, codes: &[u8], actual: u32, b: usize) -> 
 
 // All blocks.
 fn put_blocks(out: &mut [u8], at: usize, codes: &[u8], actual: u32) -> usize
-    requires { ⌜ (length (now codes) ≡ 512 * blockCount actual) × Room (now out) at (eventsBytes (blocksOf (now codes) actual)) ⌝ }
-    ensures { λ r. ⌜ Wrote (now (out .entry)) (now (out .exit)) at r (eventsBytes (blocksOf (now (codes .entry)) actual)) ⌝ }
+    requires { ⌜ (length (now codes) ≡ 512 * blockCount actual) × Room (now out) at (eventsBytes (codeBlocks (now codes) actual)) ⌝ }
+    ensures { λ r. ⌜ Wrote (now (out .entry)) (now (out .exit)) at r (eventsBytes (codeBlocks (now (codes .entry)) actual)) ⌝ }
 {
     let n = block_count(actual);
     let mut p = at;

@@ -1,4 +1,2 @@
-// What stands round the frames of a replay: code blocks before them, the game's end after them, and the tail of the file.
+// Gecko codes, which stand before the frames of a replay.
 pub mod blocks;
-pub mod end;
-pub mod tail;

@@ -8,8 +8,8 @@ use lib.ListN.{length, take, replicate}
 use Rattle.wire.specs.Wire.{be, more, part}
 use Rattle.format.specs.Refusal.{lowest}
 use Rattle.format.specs.File.{Entry, Ev, entriesBytes, tableBytes, eventsBytes, fileOf}
-use Rattle.de.specs.Table.{startsWith, declared, stopOf, allPresent, entriesIn, entriesOf, spanOf, twice, tableMissing, unsigned, untabled, headRefusal}
-use Rattle.de.specs.Step.{eventIn, stepIn, stepOf}
+use Rattle.head.specs.Table.{startsWith, declared, stopOf, allPresent, entriesIn, tableOf, spanOf, codeTwice, tableMissing, unsigned, untabled, headRefusal}
+use Rattle.head.specs.Step.{eventIn, stepIn, stepOf}
 use Rattle.de.specs.Walk.{run, walkOf}
 use Rattle.de.specs.declared.Walked.the-variants.{Done, Refused}
 
@@ -28,5 +28,5 @@ lengths = refl
 -- uncut, and cut at 28, 29, 349 and 350
 cases : map walkOf (file ∷ take 28 file ∷ take 29 file ∷ take 349 file ∷ take 350 file ∷ [])
     ≡ Done 1 0 true 350 ∷ Refused 15 15 ∷ Done 0 0 false 29 ∷ Done 0 320 false 29 ∷ Done 1 0 true 350 ∷ []
-unfolding file entry fileOf tableBytes entriesBytes eventsBytes be part more lowest startsWith stopOf allPresent entriesIn entriesOf spanOf twice tableMissing unsigned untabled headRefusal eventIn stepIn stepOf run walkOf
+unfolding file entry fileOf tableBytes entriesBytes eventsBytes be part more lowest startsWith stopOf allPresent entriesIn tableOf spanOf codeTwice tableMissing unsigned untabled headRefusal eventIn stepIn stepOf run walkOf
 cases = refl

@@ -1,143 +1,30 @@
--- The laws behind `EveryCut`: how a written head is read, and what a run finds in events of which the first bytes are present.
+-- The laws behind `EveryCut`: what a run finds in events of which the first bytes are present.
 -- Assumes nothing.
-use Prim.Native.Nat.{ℕ, zero, suc, _+_, _*_, _-_, _/_, _%_, _^_, _≤_, _<_, min}
+use Prim.Native.Nat.{ℕ, zero, suc, _+_, _*_, _-_, _^_, _≤_, _<_, min}
 use mathlib.Core.Path.{_≡_, refl, sym, ap, _∙_}
-use mathlib.Core.List.{List, [], _∷_, _++_, map, append-assoc}
+use mathlib.Core.List.{List, [], _∷_, _++_, map}
 use mathlib.Core.Bool.{Bool, true, false, cond, true≢false}
 use native.Mathlib.Nat.{add-zero, sub-zero, zero-sub}
-use native.Mathlib.Decide.{ℕ-discrete, decLt}
+use native.Mathlib.Decide.{decLt}
 use native.Mathlib.Omega.{arith}
-use borrow.Author.Tests.{lt-ltb, le-ltb, le-leb, lt-leb, eq-eqb, ne-eqb, leb-true, leb-false, eqb-true, eqb-false}
-use lib.Dec.{eqb, leb, ltb}
+use borrow.Author.Tests.{le-leb, lt-leb}
+use lib.Dec.{leb}
 use lib.ListN.{length, getD, take, drop, length-append, length-take, length-map}
-use lib.Seq.{take-append-add, take-append-le, take-take, take-at, drop-at, getD-drop, getD-take, take-nil, drop-drop}
-use Rattle.wire.specs.Wire.{be, more, number, part}
-use Rattle.wire.proofs.Laws.{length-be, number-be}
-use Rattle.format.specs.Event.{signature}
-use Rattle.format.specs.File.{Entry, Ev, entriesBytes, tableBytes, eventBytes, eventsBytes, codes, sizes, indexOf, fileOf, Fresh, Listed}
-use Rattle.format.specs.Refusal.{lowest}
+use lib.Seq.{take-append-le, take-take, take-at, drop-at, getD-drop, getD-take, take-nil, drop-drop}
+use Rattle.wire.specs.Wire.{part}
+use Rattle.format.specs.File.{Entry, Ev, tableBytes, eventBytes, eventsBytes, fileOf, Fresh, Listed}
 use Rattle.format.proofs.Files.{length-table}
-use Rattle.format.proofs.Refusals.{skip, here, none}
-use Rattle.de.specs.Table.{startsWith, declared, stopOf, allPresent, entriesIn, entriesOf, firstOf, spanOf, twice, tableMissing, unsigned, untabled, headRefusal}
-use Rattle.de.specs.Step.{stepIn, stepOf}
-use Rattle.de.specs.Numbers.{stepNumbers}
+use Rattle.head.specs.Table.{stopOf, allPresent, firstPlace, spanOf}
+use Rattle.head.specs.Step.{stepIn, stepOf}
+use Rattle.head.specs.Numbers.{stepNumbers}
+use Rattle.head.specs.declared.Step.{Step}
+use Rattle.head.specs.declared.Step.the-variants.{Event, Ends, Cut, Refused}
+use Rattle.head.proofs.Steps.{fits, overruns, at-end, inside}
+use Rattle.head.proofs.Written.{listed-span, headed, top, length-top, headed-top, length-file, stop-is, present-is, entries-are, step-is, take-past}
 use Rattle.de.specs.Walk.{Run, after, run, answerAt, walkOf}
 use Rattle.de.specs.Cut.{wholly, eventAt, eventsRead}
-use Rattle.de.specs.declared.Step.{Step}
-use Rattle.de.specs.declared.Step.the-variants.{Event, Ends, Cut, Refused}
 use Rattle.de.specs.declared.Walked.the-variants.{Done}
-use Rattle.de.proofs.Heads.{span-other, once-more, too-short, table-absent, table-cut, none-there, signed-is}
-use Rattle.de.proofs.Steps.{fits, overruns, at-end, inside}
 use Rattle.de.proofs.Runs.{run-stop}
-
--- ---- codes in a table
-
-module _ (c : ℕ) where
-  -- a code that stands in a list stands there still when more come after it
-  index-append : (seen l : List ℕ) → indexOf c seen < length seen → indexOf c (seen ++ l) < length (seen ++ l)
-  unfolding indexOf
-  index-append [] l h = absurd (omega arith)
-  index-append (y ∷ seen) l h =
-      elim (ℕ-discrete y c) [
-        | yes e ↦ rw (eq-eqb y c e) (omega arith)
-        | no n ↦ let j = rw (ne-eqb y c n) at h in let i = index-append seen l (omega arith) in rw (ne-eqb y c n) (omega arith)
-      ]
-
-  -- and one that comes last stands in it
-  index-last : (seen : List ℕ) → indexOf c (seen ++ (c ∷ [])) < length (seen ++ (c ∷ []))
-  unfolding indexOf
-  index-last [] = rw (eq-eqb c c refl) (omega arith)
-  index-last (y ∷ seen) =
-      elim (ℕ-discrete y c) [
-        | yes e ↦ rw (eq-eqb y c e) (omega arith)
-        | no n ↦ let i = index-last seen in rw (ne-eqb y c n) (omega arith)
-      ]
-
-  -- a table that is fresh after some codes lacks them
-  fresh-lacks : (seen : List ℕ) (t : List Entry) → Fresh seen t → indexOf c seen < length seen → spanOf c t ≡ 0
-  unfolding Fresh spanOf
-  fresh-lacks seen [] h l = refl
-  fresh-lacks seen (e ∷ t) h l =
-      span-other c e t (λ x. let i = rw x at (h .0) in absurd (omega arith)) ∙ fresh-lacks (seen ++ (e .code ∷ [])) t (h .2) (index-append seen (e .code ∷ []) l)
-
-  -- a listed code takes its entry's size and itself
-  listed-span : (t : List Entry) → indexOf c (codes t) < length (codes t) → spanOf c t ≡ suc (getD (sizes t) (indexOf c (codes t)) 0)
-  unfolding indexOf spanOf
-  listed-span [] h = absurd (omega arith)
-  listed-span (e ∷ t) h =
-      elim (ℕ-discrete (e .code) c) [
-        | yes x ↦ rw (eq-eqb (e .code) c x) (omega arith)
-        | no n ↦ let j = rw (ne-eqb (e .code) c n) at h in rw (ne-eqb (e .code) c n) (listed-span t (omega arith))
-      ]
-
-fresh-once : (seen : List ℕ) (t : List Entry) → Fresh seen t → twice t ≡ false
-unfolding Fresh twice
-fresh-once seen [] h = refl
-fresh-once seen (e ∷ t) h =
-    once-more e t (let z = fresh-lacks (e .code) (seen ++ (e .code ∷ [])) t (h .2) (index-last (e .code) seen) in omega arith) (fresh-once (seen ++ (e .code ∷ [])) t (h .2))
-
--- ---- the head, as it is written
-
--- entries are read as they were written
-read-entries : (seen : List ℕ) (t : List Entry) (rest : List ℕ) → Fresh seen t → entriesIn (length t) (entriesBytes t ++ rest) ≡ t
-unfolding Fresh entriesIn entriesBytes be part
-read-entries seen [] rest h = refl
-read-entries seen (e ∷ t) rest h = rw (number-be 2 (e .size) (h .1), read-entries (seen ++ (e .code ∷ [])) t rest (h .2))
-
--- a file with this table and this declared length, and with `body` after its table
-abbrev pub headed : List Entry → ℕ → List ℕ → List ℕ
-headed t n body = signature ++ (be 4 n ++ (tableBytes t ++ body))
-
--- the bytes up to the table's end
-abbrev top : List Entry → ℕ → List ℕ
-top t n = signature ++ (be 4 n ++ tableBytes t)
-
-length-top : (t : List Entry) (n : ℕ) → length (top t n) ≡ firstOf t
-length-top t n = simp (length-append, length-be, length-table) (omega arith)
-
-headed-top : (t : List Entry) (n : ℕ) (body : List ℕ) → headed t n body ≡ top t n ++ body
-headed-top t n body = simp append-assoc
-
-module _ (t : List Entry) (n : ℕ) (body : List ℕ) (small : n < 2 ^ 32) where
-  abbrev file : List ℕ
-  file = headed t n body
-
-  pub length-file : length file ≡ firstOf t + length body
-  length-file = ap length (headed-top t n body) ∙ length-append (top t n) body ∙ rw (length-top t n)
-
-  declared-is : declared file ≡ n
-  unfolding be part
-  declared-is = number-be 4 n small
-
-  pub stop-is : stopOf file ≡ min (15 + n) (firstOf t + length body)
-  unfolding stopOf
-  stop-is = rw (declared-is, length-file)
-
-  pub present-is : allPresent file ≡ leb (15 + n) (firstOf t + length body)
-  unfolding allPresent
-  present-is = rw (declared-is, length-file)
-
-  signed : unsigned file ≡ false
-  unfolding unsigned startsWith
-  signed = rw (le-ltb (length file) 15 (omega (arith, length-file)))
-
-  module _ (fresh : Fresh [] t) (room : 2 + 3 * length t ≤ n) where
-    pub entries-are : entriesOf file ≡ t
-    unfolding entriesOf tableBytes be
-    entries-are = let q : (3 * length t + 1) / 3 ≡ length t = omega arith in rw q (read-entries [] t body fresh)
-
-    there : tableMissing file ≡ false
-    unfolding tableMissing tableBytes be
-    there =
-        rw (le-ltb (stopOf file) 17 (omega (arith, stop-is)), eq-eqb ((3 * length t + 1) % 3) 1 (omega arith), le-ltb (stopOf file) (16 + (3 * length t + 1)) (omega (arith, stop-is)))
-
-    accepted : headRefusal file ≡ 0
-    unfolding headRefusal untabled lowest
-    accepted = rw (signed, there, entries-are, fresh-once [] t fresh)
-
-    pub step-is : (place : ℕ) → stepOf file place ≡ stepIn (firstOf t) (stopOf file) (allPresent file) place (getD file place 0) (spanOf (getD file place 0) t)
-    unfolding stepOf
-    step-is place = rw (accepted, entries-are)
 
 -- ---- events of which the first bytes are present
 
@@ -204,12 +91,12 @@ module _ (f : List ℕ) (m place : ℕ) where
       (record { events-are = rw (payload, r .events-are); place-is = r .place-is ∙ omega (arith, length-append (e .payload) (eventsBytes es)); last-is = r .last-is })
 
 module _ (f : List ℕ) (t : List Entry) (stop : ℕ) (whole : Bool)
-    (steps : (place : ℕ) → stepOf f place ≡ stepIn (firstOf t) stop whole place (getD f place 0) (spanOf (getD f place 0) t)) where
+    (steps : (place : ℕ) → stepOf f place ≡ stepIn (firstPlace t) stop whole place (getD f place 0) (spanOf (getD f place 0) t)) where
   -- at the end of what is present
-  at-stop : (place : ℕ) → firstOf t ≤ place → place ≡ stop → stepOf f place ≡ cond whole Ends Cut
+  at-stop : (place : ℕ) → firstPlace t ≤ place → place ≡ stop → stepOf f place ≡ cond whole Ends Cut
   at-stop place h e = steps place ∙ at-end _ _ _ _ _ _ h e
 
-  module _ (place : ℕ) (e : Ev) (starts : firstOf t ≤ place) (under : place < stop) (code : getD f place 0 ≡ e .code) (span : spanOf (e .code) t ≡ suc (length (e .payload))) where
+  module _ (place : ℕ) (e : Ev) (starts : firstPlace t ≤ place) (under : place < stop) (code : getD f place 0 ≡ e .code) (span : spanOf (e .code) t ≡ suc (length (e .payload))) where
     -- at an event that is whole, and at one that is cut
     at-whole : place + suc (length (e .payload)) ≤ stop
         → stepOf f place ≡ Event (e .code) place (place + 1) (length (e .payload)) (place + suc (length (e .payload)))
@@ -221,7 +108,7 @@ module _ (f : List ℕ) (t : List Entry) (stop : ℕ) (whole : Bool)
     at-cut h w = steps place ∙ rw (code, span) (inside _ _ _ _ _ _ starts under ∙ overruns _ _ _ _ _ (λ x. omega arith) h ∙ rw w)
 
   -- a run finds the events that are whole
-  pub run-finds : (es : List Ev) (place n m : ℕ) → Listed t es → firstOf t ≤ place → stop ≡ place + n → Present whole n (length (eventsBytes es)) → n ≤ m
+  pub run-finds : (es : List Ev) (place n m : ℕ) → Listed t es → firstPlace t ≤ place → stop ≡ place + n → Present whole n (length (eventsBytes es)) → n ≤ m
       → Stands f place n (eventsBytes es) → Finds f (run m f place) place (wholly n es) (cond whole Ends Cut)
   unfolding Listed eventsBytes wholly
   run-finds [] place n m ls h s (all w q) l st = finds-none f m place _ (ends-kind whole) (at-stop place h (omega arith))
@@ -258,42 +145,6 @@ wholly-all (e ∷ es) =
 
 -- ---- a written file, cut after k bytes
 
-take-past : (h l : List ℕ) (n k : ℕ) → length h ≡ n → n ≤ k → take k (h ++ l) ≡ h ++ take (k - n) l
-take-past h l n k e le =
-    let q : k ≡ length h + (k - n) = omega arith in
-    ap (λ (x : ℕ). take x (h ++ l)) q ∙ take-append-add h l (k - n)
-
--- under 15 bytes
-pub cut-14 : (f : List ℕ) (k : ℕ) → k < 15 → headRefusal (take k f) ≡ 14
-unfolding headRefusal
-cut-14 f k h = sym (here 14 _ (untabled (take k f) ∷ []) (too-short (take k f) (simp length-take (omega arith))))
-
--- in the table, of which j bytes are present
-module _ (t : List Entry) (n : ℕ) (rest : List ℕ) where
-  abbrev part-of : ℕ → List ℕ
-  part-of j = signature ++ (be 4 n ++ take j (tableBytes t ++ rest))
-
-  short-stop : (j : ℕ) → stopOf (part-of j) ≤ 15 + j
-  unfolding stopOf be
-  short-stop j = simp length-take (omega arith)
-
-  missing : (j : ℕ) → j < 2 + 3 * length t → tableMissing (part-of j) ≡ true
-  unfolding tableBytes be
-  missing zero h = table-absent (part-of 0) (omega (arith, short-stop 0))
-  missing (suc zero) h = table-absent (part-of 1) (omega (arith, short-stop 1))
-  missing (suc (suc j)) h = table-cut (part-of (suc (suc j))) (omega (arith, short-stop (suc (suc j))))
-
-  signed-part : (j : ℕ) → unsigned (part-of j) ≡ false
-  unfolding startsWith be
-  signed-part j = signed-is (part-of j) (omega arith)
-
-  pub cut-15 : (k : ℕ) → 15 ≤ k → k < firstOf t → headRefusal (take k (headed t n rest)) ≡ 15
-  unfolding headRefusal be
-  cut-15 k h l =
-      let g = part-of (k - 15) in
-      ap headRefusal (take-past (signature ++ be 4 n) (tableBytes t ++ rest) 15 k refl h)
-      ∙ sym (skip 14 15 (unsigned g) (untabled g ∷ []) (signed-part (k - 15)) (here 15 (untabled g) [] (none-there g (missing (k - 15) (omega arith)))))
-
 -- after the table: what a walk answers of what its run finds
 answered : (stop events place : ℕ) (whole : Bool) → (whole ≡ true → place ≡ stop) → answerAt stop events place (cond whole Ends Cut) ≡ Done events (stop - place) whole place
 answered stop events place true h = let e = h refl in ap (λ (x : ℕ). Done events x true place) (omega arith)
@@ -317,10 +168,10 @@ module _ (t : List Entry) (es : List Ev) (tail : List ℕ) (k : ℕ) where
 
   -- the bytes of events that are present
   abbrev present : ℕ
-  present = min (k - firstOf t) (length (eventsBytes es))
+  present = min (k - firstPlace t) (length (eventsBytes es))
 
   abbrev body : List ℕ
-  body = take (k - firstOf t) (eventsBytes es ++ tail)
+  body = take (k - firstPlace t) (eventsBytes es ++ tail)
 
   abbrev g : List ℕ
   g = headed t length-of body
@@ -328,26 +179,26 @@ module _ (t : List Entry) (es : List Ev) (tail : List ℕ) (k : ℕ) where
   length-is : length-of ≡ 2 + 3 * length t + length (eventsBytes es)
   length-is = length-append (tableBytes t) (eventsBytes es) ∙ rw (length-table t)
 
-  body-length : length body ≡ min (k - firstOf t) (length (eventsBytes es) + length tail)
+  body-length : length body ≡ min (k - firstPlace t) (length (eventsBytes es) + length tail)
   body-length = simp (length-take, length-append)
 
-  module _ (fresh : Fresh [] t) (listed : Listed t es) (fits : length-of < 2 ^ 32) (after : firstOf t ≤ k) where
+  module _ (fresh : Fresh [] t) (listed : Listed t es) (fits : length-of < 2 ^ 32) (after : firstPlace t ≤ k) where
     cut-is : take k (fileOf t es tail) ≡ g
     unfolding fileOf
     cut-is =
         ap (take k) (headed-top t length-of (eventsBytes es ++ tail))
-        ∙ take-past (top t length-of) (eventsBytes es ++ tail) (firstOf t) k (length-top t length-of) after
+        ∙ take-past (top t length-of) (eventsBytes es ++ tail) (firstPlace t) k (length-top t length-of) after
         ∙ sym (headed-top t length-of body)
 
-    stop-at : stopOf g ≡ firstOf t + present
+    stop-at : stopOf g ≡ firstPlace t + present
     stop-at = stop-is t length-of body fits ∙ omega (arith, length-is, body-length)
 
     whole-is : allPresent g ≡ leb (15 + length-of) k
     whole-is =
         present-is t length-of body fits
         ∙ elim (decLt k (15 + length-of)) [
-          | yes l ↦ lt-leb _ (firstOf t + length body) (omega (arith, length-is, body-length)) ∙ sym (lt-leb (15 + length-of) k l)
-          | no l ↦ le-leb _ (firstOf t + length body) (omega (arith, length-is, body-length)) ∙ sym (le-leb (15 + length-of) k (omega arith))
+          | yes l ↦ lt-leb _ (firstPlace t + length body) (omega (arith, length-is, body-length)) ∙ sym (lt-leb (15 + length-of) k l)
+          | no l ↦ le-leb _ (firstPlace t + length body) (omega (arith, length-is, body-length)) ∙ sym (le-leb (15 + length-of) k (omega arith))
         ]
 
     part-present : Present (leb (15 + length-of) k) present (length (eventsBytes es))
@@ -357,23 +208,23 @@ module _ (t : List Entry) (es : List Ev) (tail : List ℕ) (k : ℕ) where
           | no l ↦ all (le-leb (15 + length-of) k (omega arith)) (omega (arith, length-is))
         ]
 
-    stands : Stands g (firstOf t) present (eventsBytes es)
+    stands : Stands g (firstPlace t) present (eventsBytes es)
     stands =
-        ap (λ (x : List ℕ). take present (drop (firstOf t) x)) (headed-top t length-of body)
-        ∙ rw (drop-at (top t length-of) body (firstOf t) (length-top t length-of), take-take present (k - firstOf t) (eventsBytes es ++ tail) (omega arith), take-append-le present (eventsBytes es) tail (omega arith))
+        ap (λ (x : List ℕ). take present (drop (firstPlace t) x)) (headed-top t length-of body)
+        ∙ rw (drop-at (top t length-of) body (firstPlace t) (length-top t length-of), take-take present (k - firstPlace t) (eventsBytes es ++ tail) (omega arith), take-append-le present (eventsBytes es) tail (omega arith))
 
-    found : Finds g (run (length g) g (firstOf t)) (firstOf t) (wholly present es) (cond (leb (15 + length-of) k) Ends Cut)
+    found : Finds g (run (length g) g (firstPlace t)) (firstPlace t) (wholly present es) (cond (leb (15 + length-of) k) Ends Cut)
     found =
-        run-finds g t (firstOf t + present) (leb (15 + length-of) k)
+        run-finds g t (firstPlace t + present) (leb (15 + length-of) k)
         (λ place. rw (← stop-at, ← whole-is) (step-is t length-of body fits fresh (omega (arith, length-is)) place))
-        es (firstOf t) present (length g) listed (omega arith) refl part-present (omega (arith, length-file t length-of body fits, body-length)) stands
+        es (firstPlace t) present (length g) listed (omega arith) refl part-present (omega (arith, length-file t length-of body fits, body-length)) stands
 
     pub cut-events : eventsRead (take k (fileOf t es tail)) ≡ wholly present es
     unfolding eventsRead
     cut-events = rw (cut-is, entries-are t length-of body fits fresh (omega (arith, length-is))) (found .events-are)
 
     pub cut-walk : walkOf (take k (fileOf t es tail))
-        ≡ Done (length (wholly present es)) (present - length (eventsBytes (wholly present es))) (leb (15 + length-of) k) (firstOf t + length (eventsBytes (wholly present es)))
+        ≡ Done (length (wholly present es)) (present - length (eventsBytes (wholly present es))) (leb (15 + length-of) k) (firstPlace t + length (eventsBytes (wholly present es)))
     unfolding walkOf
     cut-walk =
         rw (cut-is, entries-are t length-of body fits fresh (omega (arith, length-is)), stop-at) (answer-found present found (all-found es part-present))

@@ -1,4 +1,4 @@
--- A written file, cut after any byte:
+-- A file of any table and any events that it lists, cut after any byte:
 --
 --   Cut that file after any byte: once the table is whole, the reader returns exactly the events after the table that lie wholly before
 --   the cut, in order and unaltered, and the exact number of stray event bytes. It calls the event data whole exactly when all of it is
@@ -17,14 +17,15 @@ use lib.ListN.{length, take, length-append}
 use lib.Seq.{take-length}
 use Rattle.format.specs.File.{Entry, Ev, tableBytes, eventsBytes, fileOf, Fresh, Listed}
 use Rattle.format.proofs.Files.{length-table}
-use Rattle.de.specs.Table.{firstOf}
-use Rattle.de.specs.Step.{stepOf}
+use Rattle.head.specs.Table.{firstPlace}
+use Rattle.head.specs.Step.{stepOf}
 use Rattle.de.specs.Walk.{walkOf}
 use Rattle.de.specs.Cut.{wholly, eventsRead}
-use Rattle.de.specs.declared.Step.the-variants as step
+use Rattle.head.specs.declared.Step.the-variants as step
 use Rattle.de.specs.declared.Walked.the-variants as walked
 use Rattle.de.proofs.Runs.{refused}
-use Rattle.de.proofs.Cuts.{cut-14, cut-15, cut-events, cut-walk, wholly-all, length-file}
+use Rattle.head.proofs.Written.{cut-14, cut-15, length-file}
+use Rattle.de.proofs.Cuts.{cut-events, cut-walk, wholly-all}
 
 -- any table in which no code stands twice, any events that it lists, any tail; the length fits its four bytes
 module _ (t : List Entry) (es : List Ev) (tail : List ℕ) (fresh : Fresh [] t) (listed : Listed t es)
@@ -34,7 +35,7 @@ module _ (t : List Entry) (es : List Ev) (tail : List ℕ) (fresh : Fresh [] t) 
   cut k = take k (fileOf t es tail)
 
   abbrev pub present : ℕ → ℕ
-  present k = min (k - firstOf t) (length (eventsBytes es))
+  present k = min (k - firstPlace t) (length (eventsBytes es))
 
   abbrev pub before : ℕ → List Ev
   before k = wholly (present k) es
@@ -47,25 +48,25 @@ module _ (t : List Entry) (es : List Ev) (tail : List ℕ) (fresh : Fresh [] t) 
   pub under-15 : (k : ℕ) → k < 15 → (walkOf (cut k) ≡ walked.Refused 14 0) × ((place : ℕ) → stepOf (cut k) place ≡ step.Refused 14 0)
   under-15 k h = refused (cut k) 13 (cut-14 (fileOf t es tail) k h)
 
-  pub in-table : (k : ℕ) → 15 ≤ k → k < firstOf t → (walkOf (cut k) ≡ walked.Refused 15 15) × ((place : ℕ) → stepOf (cut k) place ≡ step.Refused 15 15)
+  pub in-table : (k : ℕ) → 15 ≤ k → k < firstPlace t → (walkOf (cut k) ≡ walked.Refused 15 15) × ((place : ℕ) → stepOf (cut k) place ≡ step.Refused 15 15)
   unfolding fileOf
   in-table k h l = refused (cut k) 14 (cut-15 t (length (tableBytes t ++ eventsBytes es)) (eventsBytes es ++ tail) k h l)
 
   -- once it is whole: exactly the events wholly before the cut, in order, their codes and payloads unaltered
-  pub events : (k : ℕ) → firstOf t ≤ k → eventsRead (cut k) ≡ before k
+  pub events : (k : ℕ) → firstPlace t ≤ k → eventsRead (cut k) ≡ before k
   events k h = cut-events t es tail k fresh listed fits h
 
   -- their number, the bytes of events after them, whole exactly when all declared bytes are there, and the place after them
-  pub walk : (k : ℕ) → firstOf t ≤ k
-      → walkOf (cut k) ≡ walked.Done (length (before k)) (present k - length (eventsBytes (before k))) (leb end k) (firstOf t + length (eventsBytes (before k)))
+  pub walk : (k : ℕ) → firstPlace t ≤ k
+      → walkOf (cut k) ≡ walked.Done (length (before k)) (present k - length (eventsBytes (before k))) (leb end k) (firstPlace t + length (eventsBytes (before k)))
   walk k h = cut-walk t es tail k fresh listed fits h
 
   -- uncut: all of them, none stray, and whole
-  length-is : length (fileOf t es tail) ≡ firstOf t + (length (eventsBytes es) + length tail)
+  length-is : length (fileOf t es tail) ≡ firstPlace t + (length (eventsBytes es) + length tail)
   unfolding fileOf
   length-is = length-file t (length (tableBytes t ++ eventsBytes es)) (eventsBytes es ++ tail) fits ∙ rw (length-append (eventsBytes es) tail)
 
-  end-is : end ≡ firstOf t + length (eventsBytes es)
+  end-is : end ≡ firstPlace t + length (eventsBytes es)
   end-is = omega (arith, length-append (tableBytes t) (eventsBytes es), length-table t)
 
   all-before : before (length (fileOf t es tail)) ≡ es

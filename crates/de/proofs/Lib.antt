@@ -1,5 +1,3 @@
-pub mod Heads
-pub mod Steps
 pub mod Runs
 pub mod Cuts
 pub mod EveryCut

@@ -8,19 +8,19 @@ use Prim.Native.Nat.{ℕ, zero, suc, _+_, _-_, _≤_, _<_}
 use native.Mathlib.Nat.{add-zero}
 use native.Mathlib.Omega.{arith}
 use lib.ListN.{length}
-use Rattle.de.specs.Table.{stopOf, entriesOf, firstOf, headRefusal, headOffset}
-use Rattle.de.specs.Step.{stepOf}
-use Rattle.de.specs.Numbers.{stepNumbers}
+use Rattle.head.specs.Table.{stopOf, tableOf, firstPlace, headRefusal, headOffset}
+use Rattle.head.specs.Step.{stepOf}
+use Rattle.head.specs.Numbers.{stepNumbers}
 use Rattle.de.specs.Walk.{Run, after, turn, run, runOf, answerAt, walkOf}
 use Rattle.de.specs.Inner.{stopped}
 use types.Run.{OneOf}
 use denote.Enum.Declared.{tagOf}
-use Rattle.de.specs.declared.Step.{Step}
-use Rattle.de.proofs.Step.{the-type}
-use Rattle.de.specs.declared.Step.the-variants.{Event, Ends, Cut, Refused}
+use Rattle.head.specs.declared.Step.{Step}
+use Rattle.head.proofs.Step.{the-type}
+use Rattle.head.specs.declared.Step.the-variants.{Event, Ends, Cut, Refused}
 use Rattle.de.specs.declared.Stop.{Stop}
 use Rattle.de.specs.declared.Walked.the-variants as walked
-use Rattle.de.proofs.Steps.{refused-step}
+use Rattle.head.proofs.Steps.{refused-step}
 
 -- where a run stops that has n events before it
 abbrev pub counted : ℕ → Run → Stop
@@ -54,7 +54,7 @@ kept (Refused number offset) h e = omega arith
 pub refused-walk : (f : List ℕ) (number offset : ℕ) → number ≡ headRefusal f → offset ≡ headOffset (headRefusal f) → (number ≡ 0 → ⊥) → walked.Refused number offset ≡ walkOf f
 unfolding walkOf
 refused-walk f number offset e o h =
-    rw (run-stop (length f) f (firstOf (entriesOf f)) (Refused number offset) (λ z. omega arith) (sym (refused-step f (firstOf (entriesOf f)) number offset e o h)))
+    rw (run-stop (length f) f (firstPlace (tableOf f)) (Refused number offset) (λ z. omega arith) (sym (refused-step f (firstPlace (tableOf f)) number offset e o h)))
 
 -- both ways: the walk, and a step at any place
 pub refused : (f : List ℕ) (n : ℕ) → headRefusal f ≡ suc n

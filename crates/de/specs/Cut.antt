@@ -8,8 +8,8 @@ use lib.ListN.{length}
 use Rattle.wire.specs.Wire.{part}
 use Rattle.format.specs.File.{Ev, eventBytes}
 use Rattle.de.specs.Walk.{runOf}
-use Rattle.de.specs.declared.Step.{Step}
-use Rattle.de.specs.declared.Step.the-variants.{Event, Ends, Cut, Refused}
+use Rattle.head.specs.declared.Step.{Step}
+use Rattle.head.specs.declared.Step.the-variants.{Event, Ends, Cut, Refused}
 
 -- the events that lie wholly in the first n bytes
 unfoldable pub wholly : ℕ → List Ev → List Ev

@@ -1,5 +1,3 @@
-pub mod Table
-pub mod Step
 pub mod Walk
 pub mod Numbers
 pub mod Cut

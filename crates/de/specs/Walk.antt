@@ -4,10 +4,10 @@ use Prim.Native.Nat.{ℕ, zero, suc, _-_}
 use mathlib.Core.Bool.{Bool, true, false}
 use mathlib.Core.List.{List, [], _∷_}
 use lib.ListN.{length}
-use Rattle.de.specs.Table.{stopOf, entriesOf, firstOf}
-use Rattle.de.specs.Step.{stepOf}
-use Rattle.de.specs.declared.Step.{Step}
-use Rattle.de.specs.declared.Step.the-variants.{Event, Ends, Cut, Refused}
+use Rattle.head.specs.Table.{stopOf, tableOf, firstPlace}
+use Rattle.head.specs.Step.{stepOf}
+use Rattle.head.specs.declared.Step.{Step}
+use Rattle.head.specs.declared.Step.the-variants.{Event, Ends, Cut, Refused}
 use Rattle.de.specs.declared.Walked.{Walked}
 use Rattle.de.specs.declared.Walked.the-variants as walked
 
@@ -34,7 +34,7 @@ run (suc n) f place = turn (stepOf f place) (run n f) place
 
 -- an event takes at least a byte, so there are no more of them than bytes
 abbrev pub runOf : List ℕ → Run
-runOf f = run (length f) f (firstOf (entriesOf f))
+runOf f = run (length f) f (firstPlace (tableOf f))
 
 -- what the walk answers where it stopped, in event data that ends at stop; it does not stop at an event
 abbrev pub answerAt : ℕ → ℕ → ℕ → Step → Walked

@@ -1,29 +1,13 @@
 // The reader: one step, and the walk of a replay, whole or cut.
 ghost use mathlib.Core.Path.{_≡_};
-ghost use Prim.Native.Nat.{_+_, _≤_, _<_};
-ghost use lib.ListN.{length, getD};
-ghost use Rattle.de.specs.Step.{eventIn, stepOf};
+ghost use Prim.Native.Nat.{_≤_};
+ghost use Rattle.head.specs.Step.{stepOf};
+ghost use Rattle.head.specs.Numbers.{stepNumbers};
+ghost use Rattle.head.specs.Inner.{Opened};
 ghost use Rattle.de.specs.Walk.{runOf, answerAt, walkOf};
-ghost use Rattle.de.specs.Inner.{Agree, Ready, Advances, stopped};
-
-mod head;
-
-// What stands at a place.
-pub enum Step {
-    Event {
-        code: u8,
-        at: usize,
-        payload: usize,
-        len: usize,
-        next: usize,
-    },
-    Ends,
-    Cut,
-    Refused {
-        number: u8,
-        offset: usize,
-    },
-}
+ghost use Rattle.de.specs.Numbers.{walkNumbers};
+ghost use Rattle.de.specs.Inner.{stopped};
+use head::Step;
 
 // What a whole walk answers.
 pub enum Walked {
@@ -46,104 +30,11 @@ struct Stop {
     last: Step,
 }
 
-// How many entries of the table are tried before its index. In a written table the events of a frame are among the first seven, and a
-// comparison that the processor foresees costs less than waiting for the index.
-const NEAR: usize = 7;
-
-fn near(len: usize) -> usize
-    ensures { λ r. ⌜ r ≤ len ⌝ }
-{
-    if len < NEAR { len } else { NEAR }
-}
-
-// How many bytes an event of this code takes: by n entries of the table, or by its index.
-fn span_at(codes: &[u8], sizes: &[u16], n: usize, spans: &[u32], code: u8) -> usize
-    requires { ⌜ (n ≤ length (now codes)) × (n ≤ length (now sizes)) × Agree (now codes) (now sizes) n (now spans) × (length (now spans) ≡ 256) ⌝ }
-    ensures { λ r. ⌜ r ≡ getD (now (spans .entry)) code 0 ⌝ }
-{
-    let mut i = 0;
-    while i < n {
-        if codes[i] == code {
-            return head::span(sizes[i]) as usize;
-        }
-        i += 1;
-    }
-    spans[code as usize] as usize
-}
-
-// What stands at a place inside the event data, where an event of its code takes so many bytes.
-fn event_at(code: u8, span: usize, place: usize, stop: usize, whole: bool) -> Step
-    requires { ⌜ place < stop ⌝ }
-    ensures { λ r. ⌜ (r ≡ eventIn stop whole place code span) × Advances place stop r ⌝ }
-{
-    if span == 0 {
-        return Step::Refused {
-            number: 16,
-            offset: place,
-        };
-    }
-    if span <= stop - place {
-        return Step::Event {
-            code,
-            at: place,
-            payload: place + 1,
-            len: span - 1,
-            next: place + span,
-        };
-    }
-    if whole {
-        Step::Refused {
-            number: 17,
-            offset: place,
-        }
-    } else {
-        Step::Cut
-    }
-}
-
-// What stands at a place of a file, by what its head gave.
-fn in_data(
-    codes: &[u8],
-    sizes: &[u16],
-    n: usize,
-    spans: &[u32],
-    first: usize,
-    stop: usize,
-    whole: bool,
-    file: &[u8],
-    place: usize,
-) -> Step
-    requires { ⌜ Ready (now codes) (now sizes) n (now spans) first stop whole (now file) ⌝ }
-    ensures { λ r. ⌜ (r ≡ stepOf (now (file .entry)) place) × Advances place stop r ⌝ }
-{
-    if place < first || stop < place {
-        return Step::Refused {
-            number: 17,
-            offset: place,
-        };
-    }
-    if place == stop {
-        if whole {
-            return Step::Ends;
-        } else {
-            return Step::Cut;
-        }
-    }
-    let code = file[place];
-    event_at(
-        code,
-        span_at(codes, sizes, n, spans, code),
-        place,
-        stop,
-        whole,
-    )
-}
-
 // One reader call: what stands at a place of a file.
 pub fn step_at(file: &[u8], place: usize) -> Step
-    ensures { λ r. ⌜ r ≡ stepOf (now (file .entry)) place ⌝ }
+    ensures { λ r. ⌜ stepNumbers r ≡ stepNumbers (stepOf (now (file .entry)) place) ⌝ }
 {
-    let h = head::parse_head(file);
+    let h = head::table::parse_head(file);
     if h.refusal != 0 {
         return Step::Refused {
             number: h.refusal,
@@ -154,8 +45,8 @@ pub fn step_at(file: &[u8], place: usize) -> Step
     let codes = table.codes;
     let sizes = table.sizes;
     let spans = h.spans;
-    let n = near(table.len);
-    in_data(
+    let n = head::near(table.len);
+    head::in_data(
         &codes,
         &sizes,
         n,
@@ -179,13 +70,13 @@ fn walk_events(
     whole: bool,
     file: &[u8],
 ) -> Stop
-    requires { ⌜ Ready (now codes) (now sizes) n (now spans) first stop whole (now file) ⌝ }
+    requires { ⌜ Opened (now codes) (now sizes) n (now spans) first stop whole (now file) ⌝ }
     ensures { λ r. ⌜ (r ≡ stopped (runOf (now (file .entry)))) × (r .place ≤ stop) ⌝ }
 {
     let mut place = first;
     let mut events: usize = 0;
     let done = loop {
-        let last = in_data(codes, sizes, n, spans, first, stop, whole, file, place);
+        let last = head::in_data(codes, sizes, n, spans, first, stop, whole, file, place);
         let Step::Event {
             code: _,
             at: _,
@@ -239,9 +130,9 @@ fn finish(done: Stop, stop: usize) -> Walked
 
 // The whole reader: the events of a file, from its table's end on.
 pub fn walk(file: &[u8]) -> Walked
-    ensures { λ r. ⌜ r ≡ walkOf (now (file .entry)) ⌝ }
+    ensures { λ r. ⌜ walkNumbers r ≡ walkNumbers (walkOf (now (file .entry))) ⌝ }
 {
-    let h = head::parse_head(file);
+    let h = head::table::parse_head(file);
     if h.refusal != 0 {
         return Walked::Refused {
             number: h.refusal,
@@ -252,7 +143,7 @@ pub fn walk(file: &[u8]) -> Walked
     let codes = table.codes;
     let sizes = table.sizes;
     let spans = h.spans;
-    let n = near(table.len);
+    let n = head::near(table.len);
     let done = walk_events(&codes, &sizes, n, &spans, h.first, h.stop, h.whole, file);
     finish(done, h.stop)
 }

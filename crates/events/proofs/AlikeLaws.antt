@@ -4,8 +4,7 @@ use mathlib.Core.Path.{_≡_, refl, sym, ap, ap₂, subst, _∙_}
 use mathlib.Core.Bool.{Bool, true, false}
 use mathlib.Core.List.{List, [], _++_, append-assoc}
 use Prim.Native.Nat.{ℕ, zero, suc, _+_, _-_, _*_, _≤_, _<_}
-use native.Mathlib.Nat.{add-zero, zero-add, add-suc, add-assoc, sub-eq-zero-of-le}
-use native.Mathlib.Numerals.{add-one}
+use native.Mathlib.Nat.{add-zero, zero-add, add-assoc, sub-eq-zero-of-le}
 use native.Mathlib.Decide.{decLt}
 use native.Mathlib.Omega.{arith}
 use lib.ListN.{length, getD, length-append}
@@ -14,17 +13,18 @@ use Rattle.wire.proofs.Laws.{length-ranged-below}
 use Rattle.wire.proofs.Writers.{Left, left-room, left-step, wrote-as}
 use Rattle.layout.specs.Columns.{sum}
 use Rattle.record.proofs.Laws.{head-length, length-record}
-use Rattle.spread.specs.Spread.{Rooms, Sown}
+use Rattle.spread.specs.Inner.{Rooms, Sown}
 use Rattle.spread.proofs.Laws.{sown-whole}
-use Rattle.frames.specs.Stores.{Lent}
-use Rattle.frames.specs.Presence.{marked}
-use Rattle.frames.specs.declared.slots.Slots.{Slots}
-use Rattle.events.specs.Framed.{Rising}
+use Rattle.game.specs.Stores.{Lent}
+use Rattle.players.specs.Presence.{marked}
+use Rattle.players.specs.declared.slots.Slots.{Slots}
+use Rattle.players.specs.Inner.{Ranges}
+use Rattle.players.proofs.CountLaws.{rises}
 use Rattle.events.specs.Events.{plainHead, playerHead, idOf}
-use Rattle.events.specs.Plans.{columnsIn, recordIn, oneBytes, rowsBytes, playerBytes, playersBytes, frameBytes}
-use Rattle.events.specs.Eights.{onesOn, playersOn, briefOn, RisingWhere, Bare, Steady, Same, Clear, Calm, Alike, Together}
-use Rattle.events.specs.declared.plans.Form.{Form}
-use Rattle.events.specs.declared.plans.Plans.{Plans}
+use Rattle.events.specs.Inner.{columnsIn, recordIn, oneBytes, rowsBytes, slotBytes, slotsBytes, middleBytes, frameBytes}
+use Rattle.events.specs.Eights.{onesOn, playersOn, briefOn, RangesWhere, Bare, Steady, Same, Clear, Calm, Alike, Together}
+use Rattle.events.specs.declared.shapes.Shape.{Shape}
+use Rattle.events.specs.declared.shapes.Shapes.{Shapes}
 
 pub never : {A : Type 0} → false ≡ true → A
 never e = let z : _≡_ {A = ℕ} 0 1 = cc in absurd (omega arith)
@@ -33,34 +33,25 @@ never e = let z : _≡_ {A = ℕ} 0 1 = cc in absurd (omega arith)
 pub below-step : (P : ℕ → Type 0) (t : ℕ) → ((u : ℕ) → u < t → P u) → P t → (u : ℕ) → u < t + 1 → P u
 below-step P t h p u l = elim (decLt u t) [ yes a ↦ h u a | no b ↦ let e : t ≡ u = omega (arith, b) in subst P e p ]
 
--- ---- offsets that rise
+-- ---- offsets
 keep-nil : (b : Bool) → keep {A = ℕ} b [] ≡ []
 unfolding keep
 keep-nil true = refl
 keep-nil false = refl
 
 -- the rows of a family are as many as its last offset says
-pub rising-where : {given : Bool} {offsets : List ℕ} {n rows : ℕ} → (given ≡ true → Rising offsets n rows) → RisingWhere given offsets n
-rising-where {offsets = offsets} {n = n} r e = subst (λ (k : ℕ). Rising offsets n k) (sym (r e .last)) (r e)
+pub ranges-where : {given : Bool} {offsets : List ℕ} {n rows : ℕ} → (given ≡ true → Ranges n rows offsets) → RangesWhere given offsets n
+ranges-where {offsets = offsets} {n = n} r e = subst (λ (k : ℕ). Ranges n k offsets) (sym (r e .last)) (r e)
 
-module _ (offsets : List ℕ) (n rows : ℕ) (r : Rising offsets n rows) where
-  rising-le : (i d : ℕ) → i + d ≤ n → getD offsets i 0 ≤ getD offsets (i + d) 0
-  rising-le i zero h = rw add-zero (omega arith)
-  rising-le i (suc d) h =
-      let one = rising-le i d (omega arith) in
-      let two = r .rise (i + d) (omega arith) in
-      let e : i + d + 1 ≡ i + suc d = omega arith in
-      let three : getD offsets (i + d) 0 ≤ getD offsets (i + suc d) 0 = rw e at two in
-      omega arith
-
+module _ (offsets : List ℕ) (n rows : ℕ) (r : Ranges n rows offsets) where
   -- where two offsets are equal, so are all between them
   pub bare-equal : (given : Bool) (a b : ℕ) → a ≤ b → b ≤ n → getD offsets b 0 ≤ getD offsets a 0 → Bare given offsets a b
   bare-equal given a b h k e = record {
     level = λ g j l u.
         let p : a + (j - a) ≡ j = omega arith in
         let q : j + 1 + (b - (j + 1)) ≡ b = omega arith in
-        let lo : getD offsets a 0 ≤ getD offsets j 0 = rw p at (rising-le a (j - a) (omega arith)) in
-        let hi : getD offsets (j + 1) 0 ≤ getD offsets b 0 = rw q at (rising-le (j + 1) (b - (j + 1)) (omega arith)) in
+        let lo : getD offsets a 0 ≤ getD offsets j 0 = rw p at (rises offsets n (r .rising) a (j - a) (omega arith)) in
+        let hi : getD offsets (j + 1) 0 ≤ getD offsets b 0 = rw q at (rises offsets n (r .rising) (j + 1) (b - (j + 1)) (omega arith)) in
         omega arith;
   }
 
@@ -68,7 +59,7 @@ pub bare-none : (given : Bool) (offsets : List ℕ) (a b : ℕ) → given ≡ fa
 bare-none given offsets a b e = record { level = λ g. never (sym e ∙ g) }
 
 -- a frame that is bare has no rows
-no-rows : (m : Form) (offsets cells : List ℕ) (id a b : ℕ) → Bare (m .given) offsets a b → (j : ℕ) → a ≤ j → j < b → rowsBytes m cells offsets id j ≡ []
+no-rows : (m : Shape) (offsets cells : List ℕ) (id a b : ℕ) → Bare (m .given) offsets a b → (j : ℕ) → a ≤ j → j < b → rowsBytes m cells offsets id j ≡ []
 unfolding rowsBytes ranged keep
 no-rows m offsets cells id a b h j l u = go (m .given) refl
   where
@@ -100,7 +91,7 @@ unfolding keep
 kept-lengths true b xs ys e h = rw (← e) h
 kept-lengths false b xs ys e h = rw (← e)
 
-module _ (m : Form) (cells : List ℕ) where
+module _ (m : Shape) (cells : List ℕ) where
   plain-length : (code id id' a b : ℕ) → length (recordIn m cells (plainHead code id) a) ≡ length (recordIn m cells (plainHead code id') b)
   plain-length code id id' a b =
       length-record (plainHead code id) (columnsIn m) cells (m .rows) a
@@ -119,23 +110,23 @@ module _ (m : Form) (cells : List ℕ) where
 
   players-length : (s : Slots) (bits : List ℕ) (id id' a b : ℕ)
       → ((k : ℕ) → k < s .count → marked bits (getD (s .at) k 0) (getD (s .len) k 0) a ≡ marked bits (getD (s .at) k 0) (getD (s .len) k 0) b)
-      → length (playersBytes m s cells bits id a) ≡ length (playersBytes m s cells bits id' b)
-  unfolding playersBytes
+      → length (slotsBytes m s cells bits id a) ≡ length (slotsBytes m s cells bits id' b)
+  unfolding slotsBytes
   players-length s bits id id' a b e =
-      ranged-lengths (playerBytes m s cells bits id a) (playerBytes m s cells bits id' b) 0 (s .count)
+      ranged-lengths (slotBytes m s cells bits id a) (slotBytes m s cells bits id' b) 0 (s .count)
       (λ k h. kept-lengths _ _ _ _ (e k (omega arith)) (player-length (m .code) id id' (getD (s .ports) k 0) (getD (s .followers) k 0) (k * m .block + a) (k * m .block + b)))
 
 -- ---- eight frames that are alike to a frame
-module _ (p : Plans) (s : Slots) (lent : Lent) (n i j : ℕ)
+module _ (p : Shapes) (s : Slots) (lent : Lent) (n i j : ℕ)
     (h : Alike p s (lent .offsets) (lent .presence) n i j) (le : i ≤ j) where
   abbrev brief : ℕ → ℕ → List ℕ
   brief = briefOn p s (lent .cells .starts) (lent .cells .pres) (lent .cells .posts) (lent .cells .ends) (lent .presence) (lent .cells .ids)
 
   -- a frame without rows by offsets
   frame-brief : (a t : ℕ) → i ≤ a + t → a + t < j + 8 → frameBytes p s lent (a + t) ≡ brief a t
-  unfolding frameBytes briefOn onesOn playersOn
+  unfolding frameBytes middleBytes briefOn onesOn playersOn
   frame-brief a t l u =
-      let none : (m : Form) (cells offsets : List ℕ) → Bare (m .given) offsets i (j + 8) → rowsBytes m cells offsets (idOf lent (a + t)) (a + t) ≡ [] =
+      let none : (m : Shape) (cells offsets : List ℕ) → Bare (m .given) offsets i (j + 8) → rowsBytes m cells offsets (idOf lent (a + t)) (a + t) ≡ [] =
       λ m cells offsets b. no-rows m offsets cells (idOf lent (a + t)) i (j + 8) b (a + t) l u
       in
       rw (none (p .fod) (lent .cells .fods) (lent .offsets .fods) (h .calm .fod), none (p .whispy) (lent .cells .whispys) (lent .offsets .whispys) (h .calm .whispy), none (p .stadium) (lent .cells .stadiums) (lent .offsets .stadiums) (h .calm .stadium), none (p .item) (lent .cells .items) (lent .offsets .items) (h .clear .item))
@@ -206,12 +197,12 @@ module _ (f : ℕ → List ℕ) (i n : ℕ) (h : i + 8 ≤ n) {first all now : L
   eights-step l w = left-step l (split-eight f i n h) w
 
 -- ---- the frames from i on are alike to the one before them, which took `step` bytes
-pub record Follows (p : Plans) (s : Slots) (lent : Lent) (n step i : ℕ) : Type 0 where
+pub record Follows (p : Shapes) (s : Slots) (lent : Lent) (n step i : ℕ) : Type 0 where
   pub some : 0 < i
   pub alike : Alike p s (lent .offsets) (lent .presence) n (i - 1) i
   pub long : step ≡ length (frameBytes p s lent (i - 1))
 
-module _ (p : Plans) (s : Slots) (lent : Lent) (n step i : ℕ) where
+module _ (p : Shapes) (s : Slots) (lent : Lent) (n step i : ℕ) where
   -- after eight frames
   pub follows-eight : Follows p s lent n step i
       → Alike p s (lent .offsets) (lent .presence) n (i + 8 - 1) (i + 8) → Follows p s lent n step (i + 8)

@@ -1,22 +1,22 @@
 -- The laws of eight frames at once: their parts one by one, and that they are the frames.
 -- Assumes nothing.
-use mathlib.Core.Path.{_≡_, refl, sym, ap, ap₂, _∙_}
+use mathlib.Core.Path.{_≡_, refl, sym, ap, _∙_}
 use mathlib.Core.Bool.{Bool, true, false}
 use mathlib.Core.List.{List, [], _++_, append-nil}
-use Prim.Native.Nat.{ℕ, zero, suc, _+_, _-_, _*_, _≤_, _<_}
-use native.Mathlib.Nat.{add-assoc, sub-eq-zero-of-le}
+use Prim.Native.Nat.{ℕ, suc, _+_, _-_, _*_, _≤_, _<_}
+use native.Mathlib.Nat.{sub-eq-zero-of-le}
 use native.Mathlib.Omega.{arith}
-use lib.ListN.{length, getD}
+use lib.ListN.{getD}
 use Rattle.wire.specs.Wire.{ranged, keep}
-use Rattle.spread.specs.Spread.{Rooms, Sown, recordAt}
+use Rattle.spread.specs.Inner.{Rooms, Sown, recordAt}
 use Rattle.spread.proofs.Laws.{Rest, rest-start, rest-room, rest-step, rest-done}
-use Rattle.frames.specs.Presence.{marked}
-use Rattle.frames.specs.declared.slots.Slots.{Slots}
+use Rattle.players.specs.Presence.{marked}
+use Rattle.players.specs.declared.slots.Slots.{Slots}
 use Rattle.events.specs.Events.{plainHead, playerHead}
-use Rattle.events.specs.Plans.{columnsIn, recordIn, oneBytes, playerBytes, playersBytes}
+use Rattle.events.specs.Inner.{columnsIn, recordIn, oneBytes, slotBytes, slotsBytes}
 use Rattle.events.specs.Eights.{onesOn, playersOn, playerOn, playersFrom, briefOn, Together}
-use Rattle.events.specs.declared.plans.Form.{Form}
-use Rattle.events.specs.declared.plans.Plans.{Plans}
+use Rattle.events.specs.declared.shapes.Shape.{Shape}
+use Rattle.events.specs.declared.shapes.Shapes.{Shapes}
 
 -- what is kept or not, by a test
 kept : (b : Bool) (xs : List ℕ) → b ≡ true → keep b xs ≡ xs
@@ -27,7 +27,7 @@ not-kept : (b : Bool) (xs : List ℕ) → b ≡ false → keep b xs ≡ []
 unfolding keep
 not-kept b xs e = rw e
 
-module _ (m : Form) (cells ids : List ℕ) (i : ℕ) where
+module _ (m : Shape) (cells ids : List ℕ) (i : ℕ) where
   pub ones-given : m .given ≡ true → (t : ℕ) → onesOn m cells ids i t ≡ recordAt (plainHead (m .code) 0) ids i (columnsIn m) cells (m .rows) i t
   unfolding onesOn oneBytes
   ones-given e t = kept (m .given) _ e
@@ -36,10 +36,10 @@ module _ (m : Form) (cells ids : List ℕ) (i : ℕ) where
   unfolding onesOn oneBytes
   ones-none e t = not-kept (m .given) _ e
 
-module _ (m : Form) (s : Slots) (cells bits ids : List ℕ) (i : ℕ) where
+module _ (m : Shape) (s : Slots) (cells bits ids : List ℕ) (i : ℕ) where
   pub players-start : (t : ℕ) → playersOn m s cells bits ids i t ≡ playersFrom m s cells bits ids i 0 t
-  unfolding playersOn playersFrom playersBytes
-  players-start t = ap (λ (n : ℕ). ranged (playerBytes m s cells bits (getD ids (i + t) 0) (i + t)) 0 n) (omega arith)
+  unfolding playersOn playersFrom slotsBytes
+  players-start t = ap (λ (n : ℕ). ranged (slotBytes m s cells bits (getD ids (i + t) 0) (i + t)) 0 n) (omega arith)
 
   pub players-step : (k : ℕ) → k < s .count → (t : ℕ) → playersFrom m s cells bits ids i k t ≡ playerOn m s cells bits ids i k t ++ playersFrom m s cells bits ids i (k + 1) t
   unfolding playersFrom playerOn ranged
@@ -67,7 +67,7 @@ module _ (m : Form) (s : Slots) (cells bits ids : List ℕ) (i : ℕ) where
         ∙ ap (λ (b : List ℕ). b ++ playersFrom m s cells bits ids i (k + 1) t) (not-kept (marked bits (getD (s .at) k 0) (getD (s .len) k 0) (i + t)) _ (g .marks k t h l ∙ x))
 
 -- ---- eight frames, part after part
-module _ (p : Plans) (s : Slots) (starts pres posts ends bits ids : List ℕ) (i : ℕ) {a0 : List ℕ} {p0 step : ℕ}
+module _ (p : Shapes) (s : Slots) (starts pres posts ends bits ids : List ℕ) (i : ℕ) {a0 : List ℕ} {p0 step : ℕ}
     (r : Rooms a0 p0 step (briefOn p s starts pres posts ends bits ids i)) where
   abbrev x1 : ℕ → List ℕ
   x1 = onesOn (p .start) starts ids i

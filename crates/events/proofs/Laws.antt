@@ -1,8 +1,8 @@
--- The laws of forms: where a row's cells are, and that records by forms are the definition's events.
+-- The laws of shapes: where a row's cells are, and that records by shapes are the definition's events.
 -- Assumes nothing.
 use mathlib.Core.Path.{_≡_, refl, sym, ap, ap₂, subst, _∙_}
 use mathlib.Core.Bool.{Bool}
-use mathlib.Core.List.{List, [], _∷_}
+use mathlib.Core.List.{List, [], _∷_, _++_, append-assoc}
 use Prim.Native.Nat.{ℕ, suc, _+_, _-_, _*_, _≤_, _<_}
 use native.Mathlib.Nat.{suc-mul, zero-mul, zero-add, mul-le-mul, mul-le-mul-right}
 use native.Mathlib.Numerals.{add-one}
@@ -12,24 +12,26 @@ use lib.Seq.{length-take-le}
 use Rattle.wire.specs.Wire.{ranged, keep, Wrote}
 use Rattle.wire.proofs.Laws.{ranged-same}
 use Rattle.wire.proofs.Writers.{wrote-then}
-use Rattle.format.specs.File.{eventBytes, eventsBytes}
+use Rattle.format.specs.File.{Ev, eventBytes, eventsBytes}
 use Rattle.format.proofs.Files.{events-one, events-both, events-ranged, events-keep}
-use Rattle.layout.specs.Columns.{Narrow, hasFamily, widthsOf, sum}
+use Rattle.layout.specs.Inner.{Narrow}
+use Rattle.layout.specs.Columns.{hasFamily, widthsOf, sum}
 use Rattle.layout.specs.declared.columns.Family.{Family}
 use Rattle.layout.specs.declared.columns.Family.the-variants.{Pre, Post, FrameStart, Item, FrameEnd, FodPlatform, DreamlandWhispy, StadiumTransformation}
 use Rattle.layout.proofs.Laws.{narrow-of}
-use Rattle.record.specs.Record.{recordOf, InStore}
-use Rattle.frames.specs.Input.{Slot, slotsOf, slotIn, Slotted, rowsOf, blocksOf}
-use Rattle.frames.specs.Stores.{Lent, cellsOf, offsetsOf}
-use Rattle.frames.specs.Presence.{presentAt}
-use Rattle.frames.specs.declared.input.Frames.{Frames}
-use Rattle.frames.specs.declared.slots.Slots.{Slots}
-use Rattle.frames.proofs.PresenceLaws.{slot-at}
+use Rattle.record.specs.Record.{recordOf}
+use Rattle.record.specs.Inner.{InStore}
+use Rattle.game.specs.Frames.{Slot, slotsOf, rowsOf, slotBlocks}
+use Rattle.players.specs.Inner.{slotIn, Slotted, Ranges}
+use Rattle.game.specs.Stores.{Lent, cellsOf, offsetsOf}
+use Rattle.players.specs.Presence.{presentAt}
+use Rattle.game.specs.declared.frames.Frames.{Frames}
+use Rattle.players.specs.declared.slots.Slots.{Slots}
+use Rattle.players.proofs.PresenceLaws.{slot-at}
 use Rattle.events.specs.Events.{plainHead, headOf, playerOf, rowOf, idOf, oneEvent, rowEvents, playerEvent, playerEvents, frameEvents, framesEvents}
-use Rattle.events.specs.Framed.{Rising, RisingIn, Framed}
-use Rattle.events.specs.Plans.{Formed, Made, columnsIn, recordIn, oneBytes, rowsBytes, playerBytes, playersBytes, frameBytes, Stored, PerFrame, PerOffset, Ready}
-use Rattle.events.specs.declared.plans.Form.{Form}
-use Rattle.events.specs.declared.plans.Plans.{Plans}
+use Rattle.events.specs.Inner.{RangesIn, Framed, ShapeOf, ShapesOf, columnsIn, recordIn, oneBytes, rowsBytes, slotBytes, slotsBytes, middleBytes, frameBytes, LaidOut, PerFrame, PerOffset, Supplied}
+use Rattle.events.specs.declared.shapes.Shape.{Shape}
+use Rattle.events.specs.declared.shapes.Shapes.{Shapes}
 
 -- ---- a row's cells are in their store
 
@@ -51,20 +53,20 @@ in-store (w ∷ ws) cells blocks rows b r n e h k =
     let next = suc-mul b block in
     in-store-from (w ∷ ws) (length cells) rows (b * block + r) n (omega arith) (omega arith)
 
--- by a form: in a block, and in the only one
-module _ (m : Form) (cells : List ℕ) where
-  pub row-in : (blocks b r : ℕ) → Stored m cells blocks → b < blocks → r < m .rows → InStore (columnsIn m) (length cells) (m .rows) (b * m .block + r)
+-- by a shape: in a block, and in the only one
+module _ (m : Shape) (cells : List ℕ) where
+  pub row-in : (blocks b r : ℕ) → LaidOut m cells blocks → b < blocks → r < m .rows → InStore (columnsIn m) (length cells) (m .rows) (b * m .block + r)
   row-in blocks b r s h k =
       let n : length (columnsIn m) ≡ m .count = length-take-le (m .count) (m .widths) (s .few) in
       let e : length (columnsIn m) * m .rows ≡ m .block = ap (λ (x : ℕ). x * m .rows) n ∙ sym (s .block) in
       subst (λ (x : ℕ). InStore (columnsIn m) (length cells) (m .rows) (b * x + r)) e
       (in-store (columnsIn m) cells blocks (m .rows) b r (s .narrow) (s .whole ∙ ap (λ (x : ℕ). blocks * x) (sym e)) h k)
 
-  pub only-in : (r : ℕ) → Stored m cells 1 → r < m .rows → InStore (columnsIn m) (length cells) (m .rows) r
+  pub only-in : (r : ℕ) → LaidOut m cells 1 → r < m .rows → InStore (columnsIn m) (length cells) (m .rows) r
   only-in r s k = rw (zero-mul, zero-add) at (row-in 1 0 r s (omega arith) k)
 
--- ---- records by a form are the definition's events
-module _ (f : Frames) (lent : Lent) (family : Family) (m : Form) (h : Formed f family m) where
+-- ---- records by a shape are the definition's events
+module _ (f : Frames) (lent : Lent) (family : Family) (m : Shape) (h : ShapeOf f family m) where
   abbrev store : List ℕ
   store = cellsOf (lent .cells) family
 
@@ -93,23 +95,23 @@ module _ (f : Frames) (lent : Lent) (family : Family) (m : Form) (h : Formed f f
       (λ j l k. plain-is (idOf lent i) j))
 
   module _ (s : Slots) (q : Slotted f s) where
-    player-is : (i k : ℕ) → k < s .count → eventsBytes (playerEvent f lent family i k) ≡ playerBytes m s store (lent .presence) (idOf lent i) i k
+    player-is : (i k : ℕ) → k < s .count → eventsBytes (playerEvent f lent family i k) ≡ slotBytes m s store (lent .presence) (idOf lent i) i k
     player-is i k l =
         ap (λ (x : Slot). eventsBytes (keep (presentAt (lent .presence) x i) (rowOf f lent family (playerOf family (idOf lent i) x) k i ∷ []))) (slot-at f s q k l)
         ∙ events-keep (presentAt (lent .presence) (slotIn s k) i) _
         ∙ ap (λ (b : List ℕ). keep (presentAt (lent .presence) (slotIn s k) i) b) (events-one _ ∙ rw (h .code, h .columns .each, h .block, h .columns .columns, h .rows))
 
-    pub players-is : (i : ℕ) → eventsBytes (playerEvents f lent family i) ≡ playersBytes m s store (lent .presence) (idOf lent i) i
-    unfolding playerEvents playersBytes
+    pub players-is : (i : ℕ) → eventsBytes (playerEvents f lent family i) ≡ slotsBytes m s store (lent .presence) (idOf lent i) i
+    unfolding playerEvents slotsBytes
     players-is i =
         events-ranged (playerEvent f lent family i) 0 (length (slotsOf f))
         ∙ ap (λ (n : ℕ). ranged (λ k. eventsBytes (playerEvent f lent family i k)) 0 n) (sym (q .count))
-        ∙ ranged-same (λ k. eventsBytes (playerEvent f lent family i k)) (playerBytes m s store (lent .presence) (idOf lent i) i) 0 (s .count)
+        ∙ ranged-same (λ k. eventsBytes (playerEvent f lent family i k)) (slotBytes m s store (lent .presence) (idOf lent i) i) 0 (s .count)
         (λ k l j. player-is i k (omega arith))
 
-  -- and their stores are as long as the form says
-  pub stored-of : Framed f lent → (blocks : ℕ) → blocks ≡ blocksOf f family → Stored m store blocks
-  stored-of r blocks e = record {
+  -- and their stores are as long as the shape says
+  pub laid-of : Framed f lent → (blocks : ℕ) → blocks ≡ slotBlocks f family → LaidOut m store blocks
+  laid-of r blocks e = record {
     few = omega (arith, h .columns .few, h .columns .room);
     narrow = rw (h .columns .each) (narrow-of family (f .version));
     total = h .columns .total ∙ ap sum (sym (h .columns .each));
@@ -118,27 +120,35 @@ module _ (f : Frames) (lent : Lent) (family : Family) (m : Form) (h : Formed f f
     whole = rw (e, h .block, h .columns .columns, h .rows) (r .stores family);
   }
 
-  pub per-frame : Framed f lent → (blocks : ℕ) → blocks ≡ blocksOf f family → rowsOf f family ≡ f .counts .frames → PerFrame m store blocks (f .counts .frames)
-  per-frame r blocks e n = record { stored = stored-of r blocks e; rows = h .rows ∙ n }
+  pub per-frame : Framed f lent → (blocks : ℕ) → blocks ≡ slotBlocks f family → rowsOf f family ≡ f .counts .frames → PerFrame m store blocks (f .counts .frames)
+  per-frame r blocks e n = record { laid = laid-of r blocks e; rows = h .rows ∙ n }
 
-  pub per-offset : Framed f lent → 1 ≡ blocksOf f family → RisingIn f lent family → PerOffset m store (offsetsOf (lent .offsets) family) (f .counts .frames)
+  pub per-offset : Framed f lent → 1 ≡ slotBlocks f family → RangesIn f lent family → PerOffset m store (offsetsOf (lent .offsets) family) (f .counts .frames)
   per-offset r e o = record {
-    stored = stored-of r 1 e;
-    rising = λ t. subst (λ (n : ℕ). Rising (offsetsOf (lent .offsets) family) (f .counts .frames) n) (sym (h .rows)) (o (sym (h .given) ∙ t));
+    laid = laid-of r 1 e;
+    ranges = λ t. subst (λ (n : ℕ). Ranges (f .counts .frames) n (offsetsOf (lent .offsets) family)) (sym (h .rows)) (o (sym (h .given) ∙ t));
   }
 
-module _ (f : Frames) (s : Slots) (lent : Lent) (p : Plans) (m : Made f p) (q : Slotted f s) where
+-- four lists of events before others, as one part
+events-four : (e1 e2 e3 e4 es : List Ev) {b1 b2 b3 b4 bs : List ℕ}
+    → eventsBytes e1 ≡ b1 → eventsBytes e2 ≡ b2 → eventsBytes e3 ≡ b3 → eventsBytes e4 ≡ b4 → eventsBytes es ≡ bs
+    → eventsBytes (e1 ++ (e2 ++ (e3 ++ (e4 ++ es)))) ≡ (b1 ++ (b2 ++ (b3 ++ b4))) ++ bs
+events-four e1 e2 e3 e4 es {b1} {b2} {b3} {b4} {bs} h1 h2 h3 h4 h =
+    events-both _ _ h1 (events-both _ _ h2 (events-both _ _ h3 (events-both _ _ h4 h)))
+    ∙ sym (append-assoc b1 (b2 ++ (b3 ++ b4)) bs ∙ ap (λ (l : List ℕ). b1 ++ l) (append-assoc b2 (b3 ++ b4) bs ∙ ap (λ (l : List ℕ). b2 ++ l) (append-assoc b3 b4 bs)))
+
+module _ (f : Frames) (s : Slots) (lent : Lent) (p : Shapes) (m : ShapesOf f p) (q : Slotted f s) where
   pub frame-is : (i : ℕ) → eventsBytes (frameEvents f lent i) ≡ frameBytes p s lent i
-  unfolding frameEvents frameBytes
+  unfolding frameEvents frameBytes middleBytes
   frame-is i =
       events-both _ _ (one-is f lent FrameStart (p .start) (m .start) i)
       (events-both _ _ (players-is f lent Pre (p .pre) (m .pre) s q i)
-      (events-both _ _ (rows-is f lent FodPlatform (p .fod) (m .fod) i)
-      (events-both _ _ (rows-is f lent DreamlandWhispy (p .whispy) (m .whispy) i)
-      (events-both _ _ (rows-is f lent StadiumTransformation (p .stadium) (m .stadium) i)
-      (events-both _ _ (rows-is f lent Item (p .item) (m .item) i)
-      (events-both _ _ (players-is f lent Post (p .post) (m .post) s q i)
-      (one-is f lent FrameEnd (p .end) (m .end) i)))))))
+      (events-four _ _ _ _ _
+      (rows-is f lent FodPlatform (p .fod) (m .fod) i)
+      (rows-is f lent DreamlandWhispy (p .whispy) (m .whispy) i)
+      (rows-is f lent StadiumTransformation (p .stadium) (m .stadium) i)
+      (rows-is f lent Item (p .item) (m .item) i)
+      (events-both _ _ (players-is f lent Post (p .post) (m .post) s q i) (one-is f lent FrameEnd (p .end) (m .end) i))))
 
   pub frames-is : (n : ℕ) → n ≡ f .counts .frames → eventsBytes (framesEvents f lent) ≡ ranged (frameBytes p s lent) 0 n
   unfolding framesEvents
@@ -147,8 +157,8 @@ module _ (f : Frames) (s : Slots) (lent : Lent) (p : Plans) (m : Made f p) (q : 
       ∙ ap (λ (k : ℕ). ranged (λ i. eventsBytes (frameEvents f lent i)) 0 k) (sym e)
       ∙ ranged-same (λ i. eventsBytes (frameEvents f lent i)) (frameBytes p s lent) 0 n (λ i l k. frame-is i)
 
-  pub ready-of : Framed f lent → Ready p s lent (length (lent .cells .ids))
-  ready-of r = subst (λ (n : ℕ). Ready p s lent n) (sym (r .ids)) (record {
+  pub supplied-of : Framed f lent → Supplied p s lent (length (lent .cells .ids))
+  supplied-of r = subst (λ (n : ℕ). Supplied p s lent n) (sym (r .ids)) (record {
     ids = r .ids;
     frames = r .modest .frames;
     seats = record { few = q .few; eight = q .eight };
@@ -163,19 +173,17 @@ module _ (f : Frames) (s : Slots) (lent : Lent) (p : Plans) (m : Made f p) (q : 
   })
 
 -- ---- a frame, part after part
-module _ (p : Plans) (s : Slots) (lent : Lent) (i : ℕ) where
-  pub frame-wrote : {a0 a1 a2 a3 a4 a5 a6 a7 a8 : List ℕ} {p0 p1 p2 p3 p4 p5 p6 p7 p8 : ℕ}
+module _ (p : Shapes) (s : Slots) (lent : Lent) (i : ℕ) where
+  pub frame-wrote : {a0 a1 a2 a3 a4 a5 : List ℕ} {p0 p1 p2 p3 p4 p5 : ℕ}
       → Wrote a0 a1 p0 p1 (oneBytes (p .start) (lent .cells .starts) (idOf lent i) i)
-      → Wrote a1 a2 p1 p2 (playersBytes (p .pre) s (lent .cells .pres) (lent .presence) (idOf lent i) i)
-      → Wrote a2 a3 p2 p3 (rowsBytes (p .fod) (lent .cells .fods) (lent .offsets .fods) (idOf lent i) i)
-      → Wrote a3 a4 p3 p4 (rowsBytes (p .whispy) (lent .cells .whispys) (lent .offsets .whispys) (idOf lent i) i)
-      → Wrote a4 a5 p4 p5 (rowsBytes (p .stadium) (lent .cells .stadiums) (lent .offsets .stadiums) (idOf lent i) i)
-      → Wrote a5 a6 p5 p6 (rowsBytes (p .item) (lent .cells .items) (lent .offsets .items) (idOf lent i) i)
-      → Wrote a6 a7 p6 p7 (playersBytes (p .post) s (lent .cells .posts) (lent .presence) (idOf lent i) i)
-      → Wrote a7 a8 p7 p8 (oneBytes (p .end) (lent .cells .ends) (idOf lent i) i)
-      → Wrote a0 a8 p0 p8 (frameBytes p s lent i)
+      → Wrote a1 a2 p1 p2 (slotsBytes (p .pre) s (lent .cells .pres) (lent .presence) (idOf lent i) i)
+      → Wrote a2 a3 p2 p3
+      (middleBytes p (lent .cells .items) (lent .cells .fods) (lent .cells .whispys) (lent .cells .stadiums) (lent .offsets) (idOf lent i) i)
+      → Wrote a3 a4 p3 p4 (slotsBytes (p .post) s (lent .cells .posts) (lent .presence) (idOf lent i) i)
+      → Wrote a4 a5 p4 p5 (oneBytes (p .end) (lent .cells .ends) (idOf lent i) i)
+      → Wrote a0 a5 p0 p5 (frameBytes p s lent i)
   unfolding frameBytes
-  frame-wrote w1 w2 w3 w4 w5 w6 w7 w8 = wrote-then w1 (wrote-then w2 (wrote-then w3 (wrote-then w4 (wrote-then w5 (wrote-then w6 (wrote-then w7 w8))))))
+  frame-wrote w1 w2 w3 w4 w5 = wrote-then w1 (wrote-then w2 (wrote-then w3 (wrote-then w4 w5)))
 
 -- ---- the players' blocks, one after another
 pub next-first : (block k i first : ℕ) → first ≡ k * block + i → first + block ≡ (k + 1) * block + i

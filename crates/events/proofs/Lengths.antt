@@ -15,12 +15,12 @@ use Rattle.layout.specs.Columns.{hasFamily}
 use Rattle.layout.specs.Payloads.{headSize, recordSize}
 use Rattle.layout.specs.declared.columns.Family.{Family}
 use Rattle.layout.specs.declared.columns.Family.the-variants.{Pre, Post, FrameStart, Item, FrameEnd, FodPlatform, DreamlandWhispy, StadiumTransformation}
-use Rattle.frames.specs.Input.{Slot, noSlot, slotsOf, rowsOf}
-use Rattle.frames.specs.Stores.{Lent, offsetsOf}
-use Rattle.frames.specs.Presence.{presentAt, countFrom, playersPresent}
-use Rattle.frames.specs.declared.input.Frames.{Frames}
+use Rattle.game.specs.Frames.{Slot, noSlot, slotsOf, rowsOf}
+use Rattle.game.specs.Stores.{Lent, offsetsOf}
+use Rattle.players.specs.Presence.{presentAt, countFrom, playersPresent}
+use Rattle.game.specs.declared.frames.Frames.{Frames}
 use Rattle.events.specs.Events.{headOf, rowOf, idOf, oneEvent, rowEvents, playerEvent, playerEvents, frameEvents, framesEvents}
-use Rattle.events.specs.Framed.{RisingIn, Framed}
+use Rattle.events.specs.Inner.{RangesIn, Framed}
 use Rattle.events.specs.Length.{eventSize, framesLength}
 use Rattle.events.proofs.Sizes.{plain-size, player-size}
 
@@ -96,14 +96,14 @@ module _ (f : Frames) (lent : Lent) (family : Family) where
   players-all : summed (λ i. playersAt i * size) 0 (f .counts .frames) ≡ playersPresent (lent .presence) (slotsOf f) (f .counts .frames) * size
   players-all = summed-mul playersAt size 0 (f .counts .frames) ∙ ap (λ (n : ℕ). n * size) (players-summed (lent .presence) (slotsOf f) (f .counts .frames))
 
-  rows-all : RisingIn f lent family → summed (λ i. rowsAt i * eventSize (f .version) family) 0 (f .counts .frames) ≡ rowsOf f family * eventSize (f .version) family
+  rows-all : RangesIn f lent family → summed (λ i. rowsAt i * eventSize (f .version) family) 0 (f .counts .frames) ≡ rowsOf f family * eventSize (f .version) family
   rows-all r = summed-mul rowsAt (eventSize (f .version) family) 0 (f .counts .frames) ∙ go (hasFamily (f .version) family) refl
     where
       go : (b : Bool) → hasFamily (f .version) family ≡ b
           → summed rowsAt 0 (f .counts .frames) * cond (hasFamily (f .version) family) size 0 ≡ rowsOf f family * cond (hasFamily (f .version) family) size 0
       go true e =
           let o = r e in
-          let t = summed-rise (offsetsOf (lent .offsets) family) 0 (f .counts .frames) (λ j l. o .rise j (omega arith)) in
+          let t = summed-rise (offsetsOf (lent .offsets) family) 0 (f .counts .frames) (λ j l. o .rising j (omega arith)) in
           let n : summed rowsAt 0 (f .counts .frames) ≡ rowsOf f family = omega (arith, t, o .first, o .last, ap (λ (k : ℕ). getD (offsetsOf (lent .offsets) family) k 0) (zero-add (f .counts .frames))) in
           ap (λ (k : ℕ). k * cond (hasFamily (f .version) family) size 0) n
       go false e = rw e (mul-zero (summed rowsAt 0 (f .counts .frames)) ∙ sym (mul-zero (rowsOf f family)))

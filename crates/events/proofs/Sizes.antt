@@ -2,14 +2,13 @@
 -- Assumes nothing.
 use mathlib.Core.Path.{_≡_, refl, sym, ap, _∙_}
 use mathlib.Core.Bool.{Bool, true, false, cond}
-use mathlib.Core.List.{List, [], _∷_, _++_}
-use Prim.Native.Nat.{ℕ, zero, suc, _+_, _*_, _≤_, _<_}
+use mathlib.Core.List.{List, [], _∷_}
+use Prim.Native.Nat.{ℕ, zero, suc, _+_, _*_, _≤_}
 use native.Mathlib.Omega.{arith}
 use lib.Dec.{leb, leb·zero, lit≤}
 use lib.ListN.{length, getD}
-use Rattle.wire.specs.Wire.{ranged, keep}
 use Rattle.format.specs.Version.{gteOf, above}
-use Rattle.format.specs.File.{Entry, Ev, eventBytes, codes, sizes, indexOf, Listed}
+use Rattle.format.specs.File.{Entry, Ev, eventBytes, Listed}
 use Rattle.format.specs.declared.version.Version.{Version}
 use Rattle.format.proofs.Versions.{is-above, is-same}
 use Rattle.format.proofs.Files.{listed-append, listed-ranged, listed-keep}
@@ -20,10 +19,10 @@ use Rattle.layout.specs.declared.columns.Family.the-variants.{Pre, Post, FrameS
 use Rattle.layout.proofs.Entries.{Sized, family-at-home}
 use Rattle.record.specs.declared.Head.{Head}
 use Rattle.record.proofs.Laws.{head-length, length-record}
-use Rattle.frames.specs.Input.{Slot, noSlot, slotsOf, rowsOf}
-use Rattle.frames.specs.Stores.{Lent, cellsOf, offsetsOf}
-use Rattle.frames.specs.Presence.{presentAt}
-use Rattle.frames.specs.declared.input.Frames.{Frames}
+use Rattle.game.specs.Frames.{Slot, noSlot, slotsOf, rowsOf}
+use Rattle.game.specs.Stores.{Lent, cellsOf}
+use Rattle.players.specs.Presence.{presentAt}
+use Rattle.game.specs.declared.frames.Frames.{Frames}
 use Rattle.events.specs.Events.{headOf, playerOf, rowOf, idOf, oneEvent, rowEvents, playerEvent, playerEvents, frameEvents, framesEvents}
 
 -- every version has players' records

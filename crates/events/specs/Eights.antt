@@ -1,4 +1,4 @@
--- The bytes of eight frames that are alike, part by part.
+-- Inner too: the bytes of eight frames that are alike, part by part, and when they are.
 -- Assumes nothing.
 use Prim.Native.Nat.{ℕ, _+_, _-_, _<_, _≤_}
 use mathlib.Core.Path.{_≡_}
@@ -6,29 +6,29 @@ use mathlib.Core.Bool.{Bool, true}
 use mathlib.Core.List.{List, _++_}
 use lib.ListN.{getD}
 use Rattle.wire.specs.Wire.{ranged}
-use Rattle.frames.specs.Presence.{marked}
-use Rattle.frames.specs.Stores.{Offsets}
-use Rattle.frames.specs.declared.slots.Slots.{Slots}
-use Rattle.events.specs.Framed.{Rising}
-use Rattle.events.specs.Plans.{oneBytes, playerBytes, playersBytes}
-use Rattle.events.specs.declared.plans.Form.{Form}
-use Rattle.events.specs.declared.plans.Plans.{Plans}
+use Rattle.players.specs.Presence.{marked}
+use Rattle.game.specs.Stores.{Offsets}
+use Rattle.players.specs.declared.slots.Slots.{Slots}
+use Rattle.players.specs.Inner.{Ranges}
+use Rattle.events.specs.Inner.{oneBytes, slotBytes, slotsBytes}
+use Rattle.events.specs.declared.shapes.Shape.{Shape}
+use Rattle.events.specs.declared.shapes.Shapes.{Shapes}
 
 -- frame i + t's row; its players' rows; those from slot k on
-unfoldable pub onesOn : Form → List ℕ → List ℕ → ℕ → ℕ → List ℕ
+unfoldable pub onesOn : Shape → List ℕ → List ℕ → ℕ → ℕ → List ℕ
 onesOn m cells ids i t = oneBytes m cells (getD ids (i + t) 0) (i + t)
 
-unfoldable pub playersOn : Form → Slots → List ℕ → List ℕ → List ℕ → ℕ → ℕ → List ℕ
-playersOn m s cells bits ids i t = playersBytes m s cells bits (getD ids (i + t) 0) (i + t)
+unfoldable pub playersOn : Shape → Slots → List ℕ → List ℕ → List ℕ → ℕ → ℕ → List ℕ
+playersOn m s cells bits ids i t = slotsBytes m s cells bits (getD ids (i + t) 0) (i + t)
 
-unfoldable pub playerOn : Form → Slots → List ℕ → List ℕ → List ℕ → ℕ → ℕ → ℕ → List ℕ
-playerOn m s cells bits ids i k t = playerBytes m s cells bits (getD ids (i + t) 0) (i + t) k
+unfoldable pub playerOn : Shape → Slots → List ℕ → List ℕ → List ℕ → ℕ → ℕ → ℕ → List ℕ
+playerOn m s cells bits ids i k t = slotBytes m s cells bits (getD ids (i + t) 0) (i + t) k
 
-unfoldable pub playersFrom : Form → Slots → List ℕ → List ℕ → List ℕ → ℕ → ℕ → ℕ → List ℕ
-playersFrom m s cells bits ids i k t = ranged (playerBytes m s cells bits (getD ids (i + t) 0) (i + t)) k (s .count - k)
+unfoldable pub playersFrom : Shape → Slots → List ℕ → List ℕ → List ℕ → ℕ → ℕ → ℕ → List ℕ
+playersFrom m s cells bits ids i k t = ranged (slotBytes m s cells bits (getD ids (i + t) 0) (i + t)) k (s .count - k)
 
 -- a frame with no row of a family with offsets
-unfoldable pub briefOn : Plans → Slots → List ℕ → List ℕ → List ℕ → List ℕ → List ℕ → List ℕ → ℕ → ℕ → List ℕ
+unfoldable pub briefOn : Shapes → Slots → List ℕ → List ℕ → List ℕ → List ℕ → List ℕ → List ℕ → ℕ → ℕ → List ℕ
 briefOn p s starts pres posts ends bits ids i t =
     onesOn (p .start) starts ids i t ++ (playersOn (p .pre) s pres bits ids i t ++ (playersOn (p .post) s posts bits ids i t ++ onesOn (p .end) ends ids i t))
 
@@ -37,8 +37,8 @@ pub record Together (s : Slots) (bits : List ℕ) (i : ℕ) : Type 0 where
   pub marks : (k t : ℕ) → k < s .count → t < 8 → marked bits (getD (s .at) k 0) (getD (s .len) k 0) (i + t) ≡ marked bits (getD (s .at) k 0) (getD (s .len) k 0) i
 
 -- offsets of n frames, where the version has their family
-abbrev pub RisingWhere : Bool → List ℕ → ℕ → Type 0
-RisingWhere given offsets n = given ≡ true → Rising offsets n (getD offsets n 0)
+abbrev pub RangesWhere : Bool → List ℕ → ℕ → Type 0
+RangesWhere given offsets n = given ≡ true → Ranges n (getD offsets n 0) offsets
 
 -- no frame from a on and before b has a row by these offsets
 pub record Bare (given : Bool) (offsets : List ℕ) (a b : ℕ) : Type 0 where
@@ -65,6 +65,6 @@ pub record Clear (given : Bool) (items : List ℕ) (n i j : ℕ) : Type 0 where
   pub item : Bare given items i (j + 8)
 
 -- the eight frames from j on are of the same records as frame i, with one row each
-pub record Alike (p : Plans) (s : Slots) (o : Offsets) (bits : List ℕ) (n i j : ℕ) : Type 0 where
+pub record Alike (p : Shapes) (s : Slots) (o : Offsets) (bits : List ℕ) (n i j : ℕ) : Type 0 where
   pub clear : Clear (p .item .given) (o .items) n i j
   pub calm : Calm (p .fod .given) (p .whispy .given) (p .stadium .given) s (o .fods) (o .whispys) (o .stadiums) bits i j

@@ -13,10 +13,10 @@ use Rattle.layout.specs.declared.columns.Family.{Family}
 use Rattle.layout.specs.declared.columns.Family.the-variants.{Pre, Post, FrameStart, Item, FrameEnd, FodPlatform, DreamlandWhispy, StadiumTransformation}
 use Rattle.record.specs.Record.{recordOf}
 use Rattle.record.specs.declared.Head.{Head}
-use Rattle.frames.specs.Input.{Slot, noSlot, slotsOf, rowsOf}
-use Rattle.frames.specs.Stores.{Lent, cellsOf, offsetsOf}
-use Rattle.frames.specs.Presence.{presentAt}
-use Rattle.frames.specs.declared.input.Frames.{Frames}
+use Rattle.game.specs.Frames.{Slot, noSlot, slotsOf, rowsOf}
+use Rattle.game.specs.Stores.{Lent, cellsOf, offsetsOf}
+use Rattle.players.specs.Presence.{presentAt}
+use Rattle.game.specs.declared.frames.Frames.{Frames}
 
 -- what stands before the cells: code and frame id, and for Pre and Post the player
 abbrev pub plainHead : ℕ → ℕ → Head

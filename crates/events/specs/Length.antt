@@ -8,9 +8,9 @@ use Rattle.layout.specs.Columns.{hasFamily}
 use Rattle.layout.specs.Payloads.{recordSize}
 use Rattle.layout.specs.declared.columns.Family.{Family}
 use Rattle.layout.specs.declared.columns.Family.the-variants.{Pre, Post, FrameStart, Item, FrameEnd, FodPlatform, DreamlandWhispy, StadiumTransformation}
-use Rattle.frames.specs.Input.{slotsOf}
-use Rattle.frames.specs.Presence.{playersPresent}
-use Rattle.frames.specs.declared.input.Frames.{Frames}
+use Rattle.game.specs.Frames.{slotsOf}
+use Rattle.players.specs.Presence.{playersPresent}
+use Rattle.game.specs.declared.frames.Frames.{Frames}
 
 -- a family's event: its code and its payload; none where the version lacks the family
 abbrev pub eventSize : Version → Family → ℕ

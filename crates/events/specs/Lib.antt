@@ -1,5 +1,4 @@
 pub mod Events
-pub mod Framed
-pub mod Plans
 pub mod Length
+pub mod Inner
 pub mod Eights

@@ -2,11 +2,10 @@
 ghost use mathlib.Core.Path.{_≡_};
 ghost use mathlib.Core.Bool.{true};
 ghost use Prim.Native.Nat.{_+_, _≤_, _<_};
-ghost use lib.ListN.{length};
-ghost use Rattle.events.specs.Plans.{Seated};
-ghost use Rattle.events.specs.Eights.{RisingWhere, Bare, Steady, Same, Clear, Calm};
-use frames::presence::is_present;
-use frames::slots::Slots;
+ghost use Rattle.events.specs.Inner.{Seated};
+ghost use Rattle.events.specs.Eights.{RangesWhere, Bare, Steady, Same, Clear, Calm};
+use players::presence::is_present;
+use players::slots::Slots;
 
 fn is_same(a: bool, b: bool) -> bool
     ensures { λ r. ⌜ (r ≡ true → a ≡ b) ⌝ }
@@ -22,7 +21,7 @@ fn is_same(a: bool, b: bool) -> bool
 
 // No frame from a on and before b has a row of a family with these offsets; `given` says whether the version has the family.
 fn is_bare(given: bool, offsets: &[u32], frames: usize, a: usize, b: usize) -> bool
-    requires { ⌜ RisingWhere given (now offsets) frames × (a ≤ b) × (b ≤ frames) ⌝ }
+    requires { ⌜ RangesWhere given (now offsets) frames × (a ≤ b) × (b ≤ frames) ⌝ }
     ensures { λ r. ⌜ (r ≡ true → Bare given (now (offsets .entry)) a b) ⌝ }
 {
     if given {
@@ -34,7 +33,7 @@ fn is_bare(given: bool, offsets: &[u32], frames: usize, a: usize, b: usize) -> b
 }
 
 // The eight frames from j on have a slot's player as frame i has.
-fn is_steady(presence: &[u8], at: usize, len: usize, i: usize, j: usize) -> bool
+fn is_steady(presence: &[u8], at: usize, len: u32, i: usize, j: usize) -> bool
     requires { ⌜ j ≤ 1048576 ⌝ }
     ensures { λ r. ⌜ (r ≡ true → Steady (now (presence .entry)) at len i j) ⌝ }
 {
@@ -71,7 +70,7 @@ fn is_team(s: Slots, presence: &[u8], i: usize, j: usize) -> bool
 // The eight frames from j on are there, and no frame from i on has an item. Items break likeness most often, so this is asked by itself: in a game
 // rich in them it is all that is asked.
 pub fn is_clear(item: bool, offsets: &[u32], n: usize, i: usize, j: usize) -> bool
-    requires { ⌜ RisingWhere item (now offsets) n × (n ≤ 1048576) × (i ≤ j) × (j ≤ n) ⌝ }
+    requires { ⌜ RangesWhere item (now offsets) n × (n ≤ 1048576) × (i ≤ j) × (j ≤ n) ⌝ }
     ensures { λ r. ⌜ (r ≡ true → Clear item (now (offsets .entry)) n i j) ⌝ }
 {
     let end = j + 8;
@@ -95,9 +94,9 @@ pub fn is_calm(
     i: usize,
     j: usize,
 ) -> bool
-    requires { ⌜ (RisingWhere fod (now «fod_offsets») n
-        × RisingWhere whispy (now «whispy_offsets») n
-        × RisingWhere stadium (now «stadium_offsets») n)
+    requires { ⌜ (RangesWhere fod (now «fod_offsets») n
+        × RangesWhere whispy (now «whispy_offsets») n
+        × RangesWhere stadium (now «stadium_offsets») n)
         × Seated s
         × (n ≤ 1048576)
         × (i ≤ j)

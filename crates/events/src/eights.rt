@@ -3,14 +3,14 @@ ghost use mathlib.Core.Path.{_≡_};
 ghost use Prim.Native.Nat.{_+_, _≤_, _<_};
 ghost use lib.ListN.{length, take};
 ghost use Rattle.layout.specs.Columns.{sum};
-ghost use Rattle.record.specs.Record.{InStore};
-ghost use Rattle.spread.specs.Spread.{Rooms, Sown, recordAt};
-ghost use Rattle.events.specs.Plans.{Stored, PerFrame, Seated};
+ghost use Rattle.record.specs.Inner.{InStore};
+ghost use Rattle.spread.specs.Inner.{Rooms, Sown, recordAt};
+ghost use Rattle.events.specs.Inner.{LaidOut, PerFrame, Seated};
 ghost use Rattle.events.specs.Eights.{onesOn, playersOn, briefOn, Together};
-use super::plans::Form;
-use super::plans::Plans;
-use frames::presence::is_present;
-use frames::slots::Slots;
+use super::shapes::Shape;
+use super::shapes::Shapes;
+use players::presence::is_present;
+use players::slots::Slots;
 use record::Head;
 
 // The records of eight rows whose columns are the first `count` of `widths`.
@@ -33,7 +33,8 @@ fn put_eight_rows(
         × InStore (take count (now widths)) (length (now cells)) rows (first + 7)
         × (i + 8 ≤ length (now ids))
         × Rooms (now out) at step (recordAt h (now ids) i (take count (now widths)) (now cells) rows first) ⌝ }
-    ensures { λ r. ⌜ Sown (now (out .entry)) (now (out .exit)) at r step (recordAt h (now (ids .entry)) i (take count (now (widths .entry))) (now (cells .entry)) rows first) ⌝ }
+    ensures { λ r. ⌜ Sown (now (out .entry)) (now (out .exit)) at r step
+        (recordAt h (now (ids .entry)) i (take count (now (widths .entry))) (now (cells .entry)) rows first) ⌝ }
 {
     spread::put_records(
         out,
@@ -55,12 +56,12 @@ fn put_ones(
     out: &mut [u8],
     at: usize,
     step: usize,
-    m: Form,
+    m: Shape,
     cells: &[u32],
     ids: &[u32],
     i: usize,
 ) -> usize
-    requires { ⌜ Stored m (now cells) 1 × (i + 8 ≤ m .rows) × (i + 8 ≤ length (now ids)) × Rooms (now out) at step (onesOn m (now cells) (now ids) i) ⌝ }
+    requires { ⌜ LaidOut m (now cells) 1 × (i + 8 ≤ m .rows) × (i + 8 ≤ length (now ids)) × Rooms (now out) at step (onesOn m (now cells) (now ids) i) ⌝ }
     ensures { λ r. ⌜ Sown (now (out .entry)) (now (out .exit)) at r step (onesOn m (now (cells .entry)) (now (ids .entry)) i) ⌝ }
 {
     if m.given {
@@ -94,14 +95,15 @@ fn put_teams(
     out: &mut [u8],
     at: usize,
     step: usize,
-    m: Form,
+    m: Shape,
     s: Slots,
     cells: &[u32],
     presence: &[u8],
     ids: &[u32],
     i: usize,
 ) -> usize
-    requires { ⌜ Stored m (now cells) (s .count) × Seated s × (i + 8 ≤ m .rows) × (m .rows ≤ 1048576) × (i + 8 ≤ length (now ids)) × Together s (now presence) i
+    requires { ⌜ LaidOut m (now cells) (s .count) × Seated s × (i + 8 ≤ m .rows) × (m .rows ≤ 1048576)
+        × (i + 8 ≤ length (now ids)) × Together s (now presence) i
         × Rooms (now out) at step (playersOn m s (now cells) (now presence) (now ids) i) ⌝ }
     ensures { λ r. ⌜ Sown (now (out .entry)) (now (out .exit)) at r step (playersOn m s (now (cells .entry)) (now (presence .entry)) (now (ids .entry)) i) ⌝ }
 {
@@ -146,7 +148,7 @@ pub fn put_eight(
     at: usize,
     step: usize,
     i: usize,
-    plans: Plans,
+    shapes: Shapes,
     s: Slots,
     ids: &[u32],
     starts: &[u32],
@@ -155,19 +157,20 @@ pub fn put_eight(
     ends: &[u32],
     presence: &[u8],
 ) -> usize
-    requires { ⌜ (PerFrame (plans .start) (now starts) 1 (length (now ids))
-        × PerFrame (plans .pre) (now pres) (s .count) (length (now ids))
-        × PerFrame (plans .post) (now posts) (s .count) (length (now ids))
-        × PerFrame (plans .end) (now ends) 1 (length (now ids)))
+    requires { ⌜ (PerFrame (shapes .start) (now starts) 1 (length (now ids))
+        × PerFrame (shapes .pre) (now pres) (s .count) (length (now ids))
+        × PerFrame (shapes .post) (now posts) (s .count) (length (now ids))
+        × PerFrame (shapes .end) (now ends) 1 (length (now ids)))
         × (length (now ids) ≤ 1048576)
         × (i + 8 ≤ length (now ids))
         × Seated s
         × Together s (now presence) i
-        × Rooms (now out) at step (briefOn plans s (now starts) (now pres) (now posts) (now ends) (now presence) (now ids) i) ⌝ }
-    ensures { λ r. ⌜ Sown (now (out .entry)) (now (out .exit)) at r step (briefOn plans s (now (starts .entry)) (now (pres .entry)) (now (posts .entry)) (now (ends .entry)) (now (presence .entry)) (now (ids .entry)) i) ⌝ }
+        × Rooms (now out) at step (briefOn shapes s (now starts) (now pres) (now posts) (now ends) (now presence) (now ids) i) ⌝ }
+    ensures { λ r. ⌜ Sown (now (out .entry)) (now (out .exit)) at r step (briefOn shapes s
+        (now (starts .entry)) (now (pres .entry)) (now (posts .entry)) (now (ends .entry)) (now (presence .entry)) (now (ids .entry)) i) ⌝ }
 {
-    let mut p = put_ones(out, at, step, plans.start, starts, ids, i);
-    p = put_teams(out, p, step, plans.pre, s, pres, presence, ids, i);
-    p = put_teams(out, p, step, plans.post, s, posts, presence, ids, i);
-    put_ones(out, p, step, plans.end, ends, ids, i)
+    let mut p = put_ones(out, at, step, shapes.start, starts, ids, i);
+    p = put_teams(out, p, step, shapes.pre, s, pres, presence, ids, i);
+    p = put_teams(out, p, step, shapes.post, s, posts, presence, ids, i);
+    put_ones(out, p, step, shapes.end, ends, ids, i)
 }

@@ -2,5 +2,5 @@
 mod alike;
 mod eights;
 pub mod frame;
-mod plans;
 mod rows;
+mod shapes;

@@ -5,11 +5,12 @@ ghost use lib.ListN.{length, take};
 ghost use Rattle.wire.specs.Wire.{Room, Wrote};
 ghost use Rattle.format.specs.File.{eventBytes};
 ghost use Rattle.layout.specs.Columns.{sum};
-ghost use Rattle.record.specs.Record.{recordOf, InStore};
-ghost use Rattle.events.specs.Plans.{oneBytes, rangeBytes, rowsBytes, playersBytes, Stored, PerOffset, Seated};
-use super::plans::Form;
-use frames::presence::is_present;
-use frames::slots::Slots;
+ghost use Rattle.record.specs.Record.{recordOf};
+ghost use Rattle.record.specs.Inner.{InStore};
+ghost use Rattle.events.specs.Inner.{oneBytes, rangeBytes, rowsBytes, slotsBytes, LaidOut, PerOffset, Seated};
+use super::shapes::Shape;
+use players::presence::is_present;
+use players::slots::Slots;
 use record::Head;
 
 // A record whose columns are the first `count` of `widths`.
@@ -28,14 +29,15 @@ fn put_row(
         × (bytes ≡ sum (take count (now widths)))
         × InStore (take count (now widths)) (length (now cells)) rows first
         × Room (now out) at (eventBytes (recordOf h (take count (now widths)) (now cells) rows first)) ⌝ }
-    ensures { λ r. ⌜ Wrote (now (out .entry)) (now (out .exit)) at r (eventBytes (recordOf h (take count (now (widths .entry))) (now (cells .entry)) rows first)) ⌝ }
+    ensures { λ r. ⌜ Wrote (now (out .entry)) (now (out .exit)) at r
+        (eventBytes (recordOf h (take count (now (widths .entry))) (now (cells .entry)) rows first)) ⌝ }
 {
     record::put(out, at, h, &widths[..count], bytes, cells, rows, first)
 }
 
 // Row i of a family that has one a frame, where the version has it.
-pub fn put_one(out: &mut [u8], at: usize, m: Form, cells: &[u32], id: u32, i: usize) -> usize
-    requires { ⌜ Stored m (now cells) 1 × (i < m .rows) × Room (now out) at (oneBytes m (now cells) id i) ⌝ }
+pub fn put_one(out: &mut [u8], at: usize, m: Shape, cells: &[u32], id: u32, i: usize) -> usize
+    requires { ⌜ LaidOut m (now cells) 1 × (i < m .rows) × Room (now out) at (oneBytes m (now cells) id i) ⌝ }
     ensures { λ r. ⌜ Wrote (now (out .entry)) (now (out .exit)) at r (oneBytes m (now (cells .entry)) id i) ⌝ }
 {
     if m.given {
@@ -55,13 +57,13 @@ pub fn put_one(out: &mut [u8], at: usize, m: Form, cells: &[u32], id: u32, i: us
 fn put_range(
     out: &mut [u8],
     at: usize,
-    m: Form,
+    m: Shape,
     cells: &[u32],
     id: u32,
     a: usize,
     b: usize,
 ) -> usize
-    requires { ⌜ Stored m (now cells) 1 × (a ≤ b) × (b ≤ m .rows) × Room (now out) at (rangeBytes m (now cells) id a b) ⌝ }
+    requires { ⌜ LaidOut m (now cells) 1 × (a ≤ b) × (b ≤ m .rows) × Room (now out) at (rangeBytes m (now cells) id a b) ⌝ }
     ensures { λ r. ⌜ Wrote (now (out .entry)) (now (out .exit)) at r (rangeBytes m (now (cells .entry)) id a b) ⌝ }
 {
     let h = Head {
@@ -84,7 +86,7 @@ fn put_range(
 pub fn put_rows(
     out: &mut [u8],
     at: usize,
-    m: Form,
+    m: Shape,
     cells: &[u32],
     offsets: &[u32],
     frames: usize,
@@ -106,15 +108,16 @@ pub fn put_rows(
 pub fn put_players(
     out: &mut [u8],
     at: usize,
-    m: Form,
+    m: Shape,
     s: Slots,
     cells: &[u32],
     presence: &[u8],
     id: u32,
     i: usize,
 ) -> usize
-    requires { ⌜ Stored m (now cells) (s .count) × Seated s × (i < m .rows) × (m .rows ≤ 1048576) × Room (now out) at (playersBytes m s (now cells) (now presence) id i) ⌝ }
-    ensures { λ r. ⌜ Wrote (now (out .entry)) (now (out .exit)) at r (playersBytes m s (now (cells .entry)) (now (presence .entry)) id i) ⌝ }
+    requires { ⌜ LaidOut m (now cells) (s .count) × Seated s × (i < m .rows) × (m .rows ≤ 1048576)
+        × Room (now out) at (slotsBytes m s (now cells) (now presence) id i) ⌝ }
+    ensures { λ r. ⌜ Wrote (now (out .entry)) (now (out .exit)) at r (slotsBytes m s (now (cells .entry)) (now (presence .entry)) id i) ⌝ }
 {
     let mut p = at;
     let mut first = i;

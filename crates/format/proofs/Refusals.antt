@@ -1,63 +1,70 @@
 -- The laws of the lowest refusal: one line for each test that a judge passes or stops at, and what is known where it passes them all.
 -- Assumes nothing.
-use mathlib.Core.Path.{_≡_, refl, sym, ap, _∙_}
-use mathlib.Core.Bool.{Bool, true, false}
+use mathlib.Core.Path.{_≡_, refl}
+use mathlib.Core.Bool.{Bool, true, false, cond}
 use mathlib.Core.List.{List, [], _∷_, _++_}
-use Prim.Native.Nat.{ℕ, suc, _+_}
-use native.Mathlib.Nat.{add-zero}
-use native.Mathlib.Numerals.{add-one}
+use Prim.Native.Nat.{ℕ, suc, _<_}
 use native.Mathlib.Omega.{arith}
-use lib.ListN.{length}
-use Rattle.format.specs.Refusal.{lowest}
+use Rattle.format.specs.Refusal.{Refusal, refuse, lowest}
 
 -- a test that does not hold is passed
-pub skip : (k r : ℕ) (b : Bool) (bs : List Bool) → b ≡ false → r ≡ lowest (k + 1) bs → r ≡ lowest k (b ∷ bs)
+pub skip : (n r : ℕ) (b : Bool) (rs : List Refusal) → b ≡ false → r ≡ lowest rs → r ≡ lowest (refuse n b ∷ rs)
 unfolding lowest
-skip k r b bs e h = rw e h
+skip n r b rs e h = rw e h
 
 -- the first that holds gives its number
-pub here : (k : ℕ) (b : Bool) (bs : List Bool) → b ≡ true → k ≡ lowest k (b ∷ bs)
+pub here : (n : ℕ) (b : Bool) (rs : List Refusal) → b ≡ true → n ≡ lowest (refuse n b ∷ rs)
 unfolding lowest
-here k b bs e = rw e
+here n b rs e = rw e
 
-pub none : (k : ℕ) → 0 ≡ lowest k []
+pub none : 0 ≡ lowest []
 unfolding lowest
-none k = refl
+none = refl
 
 suc-zero : (k : ℕ) → suc k ≡ 0 → ⊥
 suc-zero k e = omega arith
 
 -- where none holds, the first does not, and none of the others
-pub passed : (k : ℕ) (b : Bool) (bs : List Bool) → lowest (suc k) (b ∷ bs) ≡ 0 → (b ≡ false) × (lowest (suc k + 1) bs ≡ 0)
+pub passed : (n : ℕ) (b : Bool) (rs : List Refusal) → lowest (refuse (suc n) b ∷ rs) ≡ 0 → (b ≡ false) × (lowest rs ≡ 0)
 unfolding lowest
-passed k true bs e = absurd (suc-zero k e)
-passed k false bs e = (refl, e)
+passed n true rs e = absurd (suc-zero n e)
+passed n false rs e = (refl, e)
 
--- ---- tests that come after others
--- where none of the first holds, the others decide
-pub lowest-after : (k : ℕ) (bs cs : List Bool) → lowest (suc k) bs ≡ 0 → lowest (suc k) (bs ++ cs) ≡ lowest (suc k + length bs) cs
-unfolding lowest
-lowest-after k [] cs e = rw add-zero
-lowest-after k (true ∷ bs) cs e = absurd (suc-zero k e)
-lowest-after k (false ∷ bs) cs e =
-    let next : suc k + 1 ≡ suc (suc k) = add-one (suc k) in
-    let place : suc (suc k) + length bs ≡ suc k + suc (length bs) = omega arith in
-    ap (λ (n : ℕ). lowest n (bs ++ cs)) next
-    ∙ lowest-after (suc k) bs cs (ap (λ (n : ℕ). lowest n bs) (sym next) ∙ e)
-    ∙ ap (λ (n : ℕ). lowest n cs) place
+-- ---- refusals that come after others
+-- no number is 0, so that an answer of 0 says that none applies
+unfoldable pub Numbered : List Refusal → Type 0
+Numbered [] = Unit {0}
+Numbered (r ∷ rs) = (0 < r .number) × Numbered rs
 
--- where one of the first holds, it decides
-pub lowest-before : (k : ℕ) (bs cs : List Bool) → (lowest k bs ≡ 0 → ⊥) → lowest k (bs ++ cs) ≡ lowest k bs
-unfolding lowest
-lowest-before k [] cs h = absurd (h refl)
-lowest-before k (true ∷ bs) cs h = refl
-lowest-before k (false ∷ bs) cs h = lowest-before (k + 1) bs cs h
+positive : (n : ℕ) → 0 < n → n ≡ 0 → ⊥
+positive n h e = omega arith
 
--- where none holds, none of the first does
-pub lowest-first : (k : ℕ) (bs cs : List Bool) → lowest (suc k) (bs ++ cs) ≡ 0 → lowest (suc k) bs ≡ 0
+-- where none of the first applies, the others decide
+pub lowest-after : (rs ts : List Refusal) → Numbered rs → lowest rs ≡ 0 → lowest (rs ++ ts) ≡ lowest ts
+unfolding lowest Numbered
+lowest-after [] ts n e = refl
+lowest-after (r ∷ rs) ts n e = go (r .applies) e (λ z. lowest-after rs ts (n .1) z)
+  where
+    go : (b : Bool) → cond b (r .number) (lowest rs) ≡ 0 → (lowest rs ≡ 0 → lowest (rs ++ ts) ≡ lowest ts) → cond b (r .number) (lowest (rs ++ ts)) ≡ lowest ts
+    go true z rest = absurd (positive (r .number) (n .0) z)
+    go false z rest = rest z
+
+-- where one of the first applies, it decides
+pub lowest-before : (rs ts : List Refusal) → (lowest rs ≡ 0 → ⊥) → lowest (rs ++ ts) ≡ lowest rs
 unfolding lowest
-lowest-first k [] cs e = refl
-lowest-first k (true ∷ bs) cs e = e
-lowest-first k (false ∷ bs) cs e =
-    let next : suc k + 1 ≡ suc (suc k) = add-one (suc k) in
-    ap (λ (n : ℕ). lowest n bs) next ∙ lowest-first (suc k) bs cs (ap (λ (n : ℕ). lowest n (bs ++ cs)) (sym next) ∙ e)
+lowest-before [] ts h = absurd (h refl)
+lowest-before (r ∷ rs) ts h = go (r .applies) h (λ z. lowest-before rs ts z)
+  where
+    go : (b : Bool) → (cond b (r .number) (lowest rs) ≡ 0 → ⊥) → ((lowest rs ≡ 0 → ⊥) → lowest (rs ++ ts) ≡ lowest rs) → cond b (r .number) (lowest (rs ++ ts)) ≡ cond b (r .number) (lowest rs)
+    go true z rest = refl
+    go false z rest = rest z
+
+-- where none applies, none of the first does
+pub lowest-first : (rs ts : List Refusal) → lowest (rs ++ ts) ≡ 0 → lowest rs ≡ 0
+unfolding lowest
+lowest-first [] ts e = refl
+lowest-first (r ∷ rs) ts e = go (r .applies) e (λ z. lowest-first rs ts z)
+  where
+    go : (b : Bool) → cond b (r .number) (lowest (rs ++ ts)) ≡ 0 → (lowest (rs ++ ts) ≡ 0 → lowest rs ≡ 0) → cond b (r .number) (lowest rs) ≡ 0
+    go true z rest = z
+    go false z rest = rest z

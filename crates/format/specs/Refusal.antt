@@ -1,14 +1,21 @@
--- Refusals: the lowest number that applies.
+-- Refusals: numbers with their tests, in the order in which they are judged.
 -- Assumes nothing.
-use mathlib.Core.Bool.{Bool, true, false, _||_}
+use Prim.Native.Nat.{ℕ}
+use mathlib.Core.Bool.{Bool, false, cond, _||_}
 use mathlib.Core.List.{List, [], _∷_}
-use Prim.Native.Nat.{ℕ, _+_}
 
--- the number of the first test that holds, the tests being numbered from k on; 0 where none does
-unfoldable pub lowest : ℕ → List Bool → ℕ
-lowest k [] = 0
-lowest k (true ∷ bs) = k
-lowest k (false ∷ bs) = lowest (k + 1) bs
+-- a refusal: its number, and the test of what it is given for
+pub record Refusal : Type 0 where
+  pub number : ℕ
+  pub applies : Bool
+
+abbrev pub refuse : ℕ → Bool → Refusal
+refuse number applies = record { number = number; applies = applies }
+
+-- the number of the first that applies; 0 where none does
+unfoldable pub lowest : List Refusal → ℕ
+lowest [] = 0
+lowest (r ∷ rs) = cond (r .applies) (r .number) (lowest rs)
 
 -- one of the tests holds
 unfoldable pub oneOf : List Bool → Bool

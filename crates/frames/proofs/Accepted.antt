@@ -8,17 +8,18 @@ use lib.Dec.{lit<}
 use lib.ListN.{getD}
 use Rattle.format.specs.Version.{acceptedOf}
 use Rattle.format.specs.Refusal.{lowest}
-use Rattle.format.proofs.Refusals.{passed}
+use Rattle.format.proofs.Refusals.{Numbered, passed}
 use Rattle.format.proofs.Tests.{one-passed, rest-each}
 use Rattle.layout.specs.declared.columns.Family.{Family}
 use Rattle.layout.specs.declared.columns.Family.the-variants.{Item}
-use Rattle.frames.specs.Stores.{Lent, Cells, Offsets, offsetFamilies, cellsOf, offsetsOf}
+use Rattle.game.specs.Stores.{Lent, Cells, Offsets, offsetFamilies, cellsOf, offsetsOf}
 use Rattle.frames.specs.Judge.{tooMany, exceeds, storesMisfit, cellsExceed, misleads, offsetsMislead, refusals}
-use Rattle.frames.specs.Accepted.{Modest, Stored, Accepted}
-use Rattle.frames.specs.declared.input.Frames.{Frames}
+use Rattle.players.specs.Inner.{Modest}
+use Rattle.frames.specs.Inner.{Stored, Accepted}
+use Rattle.game.specs.declared.frames.Frames.{Frames}
 use Rattle.frames.proofs.CellLaws.{family-none, ids-fit, stores-fit, stored}
 use Rattle.frames.proofs.OffsetLaws.{placed}
-use Rattle.frames.proofs.PresenceLaws.{presence-even, covered}
+use Rattle.players.proofs.PresenceLaws.{presence-even, covered}
 use Rattle.frames.proofs.PortLaws.{ported}
 
 -- ---- 2: the counts, and the bytes of codes and metadata
@@ -55,7 +56,12 @@ unfolding offsetsMislead
 offsets-none f o e = rest-each Item (λ family. misleads f family (offsetsOf o family)) offsetFamilies e
 
 -- ---- all of them
-module _ (f : Frames) (s : Lent) (codes metadata : ℕ) (e : lowest 1 (refusals f s codes metadata) ≡ 0) where
+-- none is numbered 0, so that further refusals may follow them
+pub numbered : (f : Frames) (s : Lent) (codes metadata : ℕ) → Numbered (refusals f s codes metadata)
+unfolding Numbered refusals
+numbered f s codes metadata = (lit< tt, (lit< tt, (lit< tt, (lit< tt, (lit< tt, (lit< tt, (lit< tt, tt)))))))
+
+module _ (f : Frames) (s : Lent) (codes metadata : ℕ) (e : lowest (refusals f s codes metadata) ≡ 0) where
   pub accepted : Accepted f s
   unfolding refusals
   accepted =

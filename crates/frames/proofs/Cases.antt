@@ -1,4 +1,4 @@
--- Computed examples: inputs of each refusal number, slots, and players counted.
+-- Computed examples: inputs of each refusal number.
 -- Assumes nothing.
 use mathlib.Core.Path.{_≡_, refl}
 use mathlib.Core.List.{List, [], _∷_, map}
@@ -6,16 +6,16 @@ use Prim.Native.Nat.{ℕ}
 use lib.ListN.{replicate}
 use Rattle.wire.specs.Wire.{keep, tabulate}
 use Rattle.format.specs.Version.{version, above, gteOf, acceptedOf}
-use Rattle.format.specs.Refusal.{lowest}
+use Rattle.format.specs.Refusal.{lowest, oneOf}
 use Rattle.format.specs.declared.version.Version.{Version}
 use Rattle.layout.specs.Columns.{columnsOf, chosen, sum, hasFamily}
-use Rattle.frames.specs.Input.{slot, portsOf, portSlots, portBytes, slotsFrom, slotsOf}
-use Rattle.frames.specs.Presence.{marked, countFrom, playersPresent}
-use Rattle.frames.specs.Stores.{Lent, cells, offsets, lent}
-use Rattle.frames.specs.Judge.{oneOf, tooMany, misfits, storesMisfit, columnsExceed, blocksExceed, exceeds, cellsExceed, falls, strays, given, misleads, offsetsMislead, uneven, portUneven, portsUneven, presenceWrong, portNumbers, twice, portsWrong, refusals}
-use Rattle.frames.specs.declared.input.Counts.{Counts}
-use Rattle.frames.specs.declared.input.PortColumn.{PortColumn}
-use Rattle.frames.specs.declared.input.Frames.{Frames}
+use Rattle.game.specs.Frames.{portsOf, portSlots, portBytes, slotsFrom, slotsOf}
+use Rattle.game.specs.Stores.{Lent, cells, offsets, lent}
+use Rattle.frames.specs.Judge.{tooMany, misfits, storesMisfit, columnsExceed, blocksExceed, exceeds, cellsExceed, falls, strays, leftOver, misleads, offsetsMislead, portNumbers, twice, portsWrong, refusals}
+use Rattle.players.specs.Presence.{uneven, portUneven, portsUneven, presenceWrong}
+use Rattle.game.specs.declared.frames.Counts.{Counts}
+use Rattle.game.specs.declared.frames.PortColumn.{PortColumn}
+use Rattle.game.specs.declared.frames.Frames.{Frames}
 
 abbrev counts : ℕ → ℕ → Counts
 counts frames items = record { frames = frames; items = items; fods = 0; whispys = 0; stadiums = 0 }
@@ -114,17 +114,6 @@ table =
     ∷ case 7 (none 3 (leader 2 ∷ leader 1 ∷ leader 2 ∷ leader 0 ∷ [])) nothing 0 0
     ∷ []
 
-refused : map (λ (c : Case). lowest 1 (refusals (c .frames) (c .lent) (c .codes) (c .metadata))) table ≡ map (λ (c : Case). c .number) table
-unfolding table lowest refusals acceptedOf above gteOf columnsOf chosen sum hasFamily keep tabulate portsOf portSlots portBytes slotsFrom slotsOf oneOf tooMany misfits storesMisfit columnsExceed blocksExceed exceeds cellsExceed falls strays given misleads offsetsMislead uneven portUneven portsUneven presenceWrong portNumbers twice portsWrong
+refused : map (λ (c : Case). lowest (refusals (c .frames) (c .lent) (c .codes) (c .metadata))) table ≡ map (λ (c : Case). c .number) table
+unfolding table lowest refusals acceptedOf above gteOf columnsOf chosen sum hasFamily keep tabulate portsOf portSlots portBytes slotsFrom slotsOf oneOf tooMany misfits storesMisfit columnsExceed blocksExceed exceeds cellsExceed falls strays leftOver misleads offsetsMislead uneven portUneven portsUneven presenceWrong portNumbers twice portsWrong
 refused = refl
-
--- port 1 with a follower, then port 3: where the presence bytes of each slot begin
-slots-in-order : slotsOf (input late (counts 9 0) 2 (column 1 1 2 2 ∷ column 3 0 2 0 ∷ leader 0 ∷ leader 0 ∷ []))
-    ≡ slot 1 0 0 2 ∷ slot 1 1 2 2 ∷ slot 3 0 4 2 ∷ []
-unfolding keep tabulate portsOf portSlots portBytes slotsFrom slotsOf
-slots-in-order = refl
-
--- nine frames: a leader that is always there, a follower in frames 1 and 8, and seven spare bits that do not count
-players : playersPresent (2 ∷ 255 ∷ []) (slot 0 0 0 0 ∷ slot 0 1 0 2 ∷ []) 9 ≡ 11
-unfolding playersPresent countFrom marked
-players = refl

@@ -4,7 +4,7 @@ use mathlib.Core.Path.{_≡_, refl, sym, ap, _∙_}
 use mathlib.Core.Bool.{Bool, true, false, not, _||_, or-assoc, or-false}
 use mathlib.Core.List.{List, [], _∷_, _++_, map, map-append}
 use Prim.Native.Nat.{ℕ, zero, suc, _+_, _*_, _-_, _%_, _^_, _≤_, _<_}
-use native.Mathlib.Nat.{add-comm, add-assoc, zero-add, mul-assoc, zero-mul, suc-mul, add-mul, one-mul, mul-le-mul, mul-le-mul-right, pow-le-pow-right, lt-of-lt-of-le, sub-eq-zero-of-le, add-sub-cancel-left}
+use native.Mathlib.Nat.{add-comm, add-assoc, zero-add, mul-assoc, zero-mul, suc-mul, add-mul, one-mul, mul-le-mul-right, pow-le-pow-right, lt-of-lt-of-le, sub-eq-zero-of-le, add-sub-cancel-left}
 use native.Mathlib.Numerals.{add-one}
 use native.Mathlib.Omega.{arith}
 use borrow.Author.Tests.{le-leb, lt-leb, leb-true, leb-false, eqb-true, not-false}
@@ -17,17 +17,18 @@ use lib.Seq.{drop-cons, drop-drop, take-add, getD-take, getD-drop, length-take-l
 use Rattle.wire.specs.Wire.{part}
 use Rattle.wire.proofs.Laws.{pow-8}
 use Rattle.layout.specs.Columns.{widthsOf}
-use Rattle.layout.specs.Plan.{expand, Planned}
+use Rattle.layout.specs.Inner.{expand, RunsOf}
 use Rattle.layout.specs.declared.columns.Family.{Family}
 use Rattle.layout.specs.declared.columns.Family.the-variants.{Pre, Post, FrameStart, Item, FrameEnd, FodPlatform, DreamlandWhispy, StadiumTransformation}
-use Rattle.layout.specs.declared.plan.Plan.{Plan}
+use Rattle.layout.specs.declared.listing.Runs.{Runs}
 use Rattle.format.specs.declared.version.Version.{Version}
 use Rattle.format.proofs.Tests.{or-none, one-append, one-passed, rest-each}
-use Rattle.frames.specs.Input.{rowsOf, blocksOf}
-use Rattle.frames.specs.Stores.{Cells, families, cellsOf}
-use Rattle.frames.specs.Judge.{oneOf, misfits, storesMisfit, over, columnsExceed, blocksExceed, exceeds}
-use Rattle.frames.specs.Accepted.{Modest, Stored, runWidths, Whole}
-use Rattle.frames.specs.declared.input.Frames.{Frames}
+use Rattle.game.specs.Frames.{rowsOf, slotBlocks}
+use Rattle.game.specs.Stores.{Cells, families, cellsOf}
+use Rattle.format.specs.Refusal.{oneOf}
+use Rattle.frames.specs.Judge.{misfits, storesMisfit, over, columnsExceed, blocksExceed, exceeds}
+use Rattle.frames.specs.Inner.{Stored, runWidths, Whole}
+use Rattle.game.specs.declared.frames.Frames.{Frames}
 
 -- ---- the bits of many cells as one number
 or-most : (a b : ℕ) → (a ≤ bitOr a b) × (b ≤ bitOr a b)
@@ -90,25 +91,25 @@ columns-run zero w ws rows cells = rw zero-mul
 columns-run (suc n) w ws rows cells =
     rw (columns-run n w ws rows (drop rows cells), suc-mul, add-comm (n * rows) rows, take-add, map-append, one-append, or-assoc, drop-drop)
 
--- the widths of a plan's runs from the k-th on
-unfoldable pub runsFrom : Plan → ℕ → List ℕ
-runsFrom p k = expand (drop k (take (p .runs) (p .widths))) (drop k (take (p .runs) (p .lengths)))
+-- the widths of the runs from the k-th on
+unfoldable pub runsFrom : Runs → ℕ → List ℕ
+runsFrom p k = expand (drop k (take (p .count) (p .widths))) (drop k (take (p .count) (p .lengths)))
 
-runs-step : (p : Plan) → Whole p → (k : ℕ) → k < p .runs → runsFrom p k ≡ replicate (getD (p .lengths) k 0) (getD (p .widths) k 0) ++ runsFrom p (k + 1)
+runs-step : (p : Runs) → Whole p → (k : ℕ) → k < p .count → runsFrom p k ≡ replicate (getD (p .lengths) k 0) (getD (p .widths) k 0) ++ runsFrom p (k + 1)
 unfolding runsFrom expand
 runs-step p e k h =
-    let wide : length (take (p .runs) (p .widths)) ≡ p .runs = length-take-le (p .runs) (p .widths) (omega (arith, e .widths, e .few)) in
-    let long : length (take (p .runs) (p .lengths)) ≡ p .runs = length-take-le (p .runs) (p .lengths) (omega (arith, e .lengths, e .few)) in
+    let wide : length (take (p .count) (p .widths)) ≡ p .count = length-take-le (p .count) (p .widths) (omega (arith, e .widths, e .few)) in
+    let long : length (take (p .count) (p .lengths)) ≡ p .count = length-take-le (p .count) (p .lengths) (omega (arith, e .lengths, e .few)) in
     rw
-    (drop-cons (take (p .runs) (p .widths)) k 0 (omega arith), drop-cons (take (p .runs) (p .lengths)) k 0 (omega arith), getD-take (p .runs) (p .widths) k 0 h, getD-take (p .runs) (p .lengths) k 0 h, add-one)
+    (drop-cons (take (p .count) (p .widths)) k 0 (omega arith), drop-cons (take (p .count) (p .lengths)) k 0 (omega arith), getD-take (p .count) (p .widths) k 0 h, getD-take (p .count) (p .lengths) k 0 h, add-one)
 
-pub runs-done : (p : Plan) → Whole p → (k : ℕ) → p .runs ≤ k → runsFrom p k ≡ []
+pub runs-done : (p : Runs) → Whole p → (k : ℕ) → p .count ≤ k → runsFrom p k ≡ []
 unfolding runsFrom expand
 runs-done p e k h =
-    rw (drop-of-length-le (take (p .runs) (p .widths)) {i = k} (omega (arith, length-take (p .runs) (p .widths))))
+    rw (drop-of-length-le (take (p .count) (p .widths)) {i = k} (omega (arith, length-take (p .count) (p .widths))))
 
 -- in a loop over the runs: the answer r is that of the runs from the k-th on, whose cells begin at index from
-module _ (p : Plan) (e : Whole p) (k : ℕ) (h : k < p .runs) (rows : ℕ) (cells : List ℕ) where
+module _ (p : Runs) (e : Whole p) (k : ℕ) (h : k < p .count) (rows : ℕ) (cells : List ℕ) where
   abbrev n : ℕ
   n = getD (p .lengths) k 0
 
@@ -159,44 +160,30 @@ module _ (ws : List ℕ) (columns : ℕ) (e : columns ≡ length ws) (rows : ℕ
   blocks-none h r at q = sym (rw (sub-eq-zero-of-le h) at q)
 
 -- ---- a family's store
-pub whole-plan : (family : Family) (v : Version) (p : Plan) → Planned family v p → Whole p
-whole-plan family v p e = record {
+pub whole-runs : (family : Family) (v : Version) (p : Runs) → RunsOf family v p → Whole p
+whole-runs family v p e = record {
   columns = e .columns ∙ ap length (sym (e .each));
   few = e .few;
   widths = e .widths-room;
   lengths = e .lengths-room;
 }
 
--- no family has more rows than items may have
-pub rows-most : (f : Frames) (family : Family) → Modest f → rowsOf f family ≤ 4194304
-rows-most f Pre m = omega (arith, m .frames)
-rows-most f Post m = omega (arith, m .frames)
-rows-most f FrameStart m = omega (arith, m .frames)
-rows-most f Item m = m .items
-rows-most f FrameEnd m = omega (arith, m .frames)
-rows-most f FodPlatform m = omega (arith, m .fods)
-rows-most f DreamlandWhispy m = omega (arith, m .whispys)
-rows-most f StadiumTransformation m = omega (arith, m .stadiums)
-
-pub product-small : {a b c : ℕ} → a ≤ 8 → b ≤ 32 → c ≤ 4194304 → (b * c ≤ 134217728) × (a * (b * c) ≤ 1073741824)
-product-small h k l = (mul-le-mul k l, mul-le-mul h (mul-le-mul k l))
-
 module _ (f : Frames) (family : Family) (store : List ℕ) where
   -- as the code finds it, with the family's own numbers
-  pub misfits-as : (blocks columns rows : ℕ) → blocks ≡ blocksOf f family → columns ≡ length (widthsOf family (f .version)) → rows ≡ rowsOf f family
+  pub misfits-as : (blocks columns rows : ℕ) → blocks ≡ slotBlocks f family → columns ≡ length (widthsOf family (f .version)) → rows ≡ rowsOf f family
       → not (eqb (length store) (blocks * (columns * rows))) ≡ misfits f family store
   unfolding misfits
   misfits-as blocks columns rows b c r = rw (b, c, r)
 
-  pub fits-as : misfits f family store ≡ false → length store ≡ blocksOf f family * (length (widthsOf family (f .version)) * rowsOf f family)
+  pub fits-as : misfits f family store ≡ false → length store ≡ slotBlocks f family * (length (widthsOf family (f .version)) * rowsOf f family)
   unfolding misfits
   fits-as e = eqb-true _ _ (not-false _ e)
 
-  pub fits-with : misfits f family store ≡ false → (blocks rows : ℕ) (p : Plan) → blocks ≡ blocksOf f family → Planned family (f .version) p → rows ≡ rowsOf f family
+  pub fits-with : misfits f family store ≡ false → (blocks rows : ℕ) (p : Runs) → blocks ≡ slotBlocks f family → RunsOf family (f .version) p → rows ≡ rowsOf f family
       → blocks * (length (runWidths p) * rows) ≤ length store
   fits-with e blocks rows p b w r = rw (b, w .each, r) (omega (arith, fits-as e))
 
-  pub exceeds-as : (t : Bool) (blocks rows : ℕ) (p : Plan) → blocks ≡ blocksOf f family → Planned family (f .version) p → rows ≡ rowsOf f family
+  pub exceeds-as : (t : Bool) (blocks rows : ℕ) (p : Runs) → blocks ≡ slotBlocks f family → RunsOf family (f .version) p → rows ≡ rowsOf f family
       → t ≡ blocksExceed blocks (runWidths p) rows store → t ≡ exceeds f family store
   unfolding exceeds
   exceeds-as t blocks rows p b w r q = rw (b, w .each, r) at q
@@ -268,7 +255,7 @@ stored f family cells m e =
       size = size;
       narrow = λ block column row b h l.
           rw (cell-place block (length (widthsOf family (f .version))) column (rowsOf f family) row)
-          (blocks-narrow (blocksOf f family) (widthsOf family (f .version)) (rowsOf f family) cells e (omega arith) block column row b h l);
+          (blocks-narrow (slotBlocks f family) (widthsOf family (f .version)) (rowsOf f family) cells e (omega arith) block column row b h l);
     }
 
 -- ---- where a store's cells stand, for whoever reads them
@@ -279,15 +266,15 @@ module _ (f : Frames) (family : Family) (cells : List ℕ) (s : Stored f family 
   abbrev rows : ℕ
   rows = rowsOf f family
 
-  pub cell-inside : (block column row : ℕ) → block < blocksOf f family → column < columns → row < rows → (block * columns + column) * rows + row < length cells
+  pub cell-inside : (block column row : ℕ) → block < slotBlocks f family → column < columns → row < rows → (block * columns + column) * rows + row < length cells
   cell-inside block column row b h l =
       rw (cell-place block columns column rows row, s .size) (digits-lt b (digits-lt h l))
 
   -- a block is a store of one block
-  pub block-inside : (block : ℕ) → block < blocksOf f family → block * (columns * rows) + columns * rows ≤ length cells
+  pub block-inside : (block : ℕ) → block < slotBlocks f family → block * (columns * rows) + columns * rows ≤ length cells
   block-inside block b = rw (s .size, ← suc-mul) (mul-le-mul-right (columns * rows) b)
 
-  pub block-size : (block : ℕ) → block < blocksOf f family → length (part cells (block * (columns * rows)) (columns * rows)) ≡ columns * rows
+  pub block-size : (block : ℕ) → block < slotBlocks f family → length (part cells (block * (columns * rows)) (columns * rows)) ≡ columns * rows
   unfolding part
   block-size block b = length-take-le (columns * rows) (drop (block * (columns * rows)) cells) (simp length-drop (omega (arith, block-inside block b)))
 
@@ -300,8 +287,8 @@ module _ (f : Frames) (family : Family) (cells : List ℕ) (s : Stored f family 
       ∙ ap (λ (i : ℕ). getD cells i 0) (sym (cell-place block columns column rows row))
 
   -- a store of one block
-  pub single-size : blocksOf f family ≡ 1 → length cells ≡ columns * rows
+  pub single-size : slotBlocks f family ≡ 1 → length cells ≡ columns * rows
   single-size e = s .size ∙ rw (e, one-mul)
 
-  pub single-narrow : blocksOf f family ≡ 1 → (column row : ℕ) → column < columns → row < rows → getD cells (column * rows + row) 0 < 256 ^ getD (widthsOf family (f .version)) column 0
+  pub single-narrow : slotBlocks f family ≡ 1 → (column row : ℕ) → column < columns → row < rows → getD cells (column * rows + row) 0 < 256 ^ getD (widthsOf family (f .version)) column 0
   single-narrow e column row h l = rw (zero-mul, zero-add) at (s .narrow 0 column row (omega arith) h l)

@@ -1,5 +1,3 @@
-pub mod SlotLaws
-pub mod PresenceLaws
 pub mod PortLaws
 pub mod CellLaws
 pub mod OffsetLaws

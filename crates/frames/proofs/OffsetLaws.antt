@@ -4,7 +4,6 @@ use mathlib.Core.Path.{_≡_, refl, sym, ap, _∙_}
 use mathlib.Core.Bool.{Bool, true, false, not, _||_}
 use mathlib.Core.List.{List, [], _∷_}
 use Prim.Native.Nat.{ℕ, zero, suc, _+_, _-_, _≤_, _<_}
-use native.Mathlib.Nat.{add-zero, le-refl}
 use native.Mathlib.Numerals.{add-one}
 use native.Mathlib.Omega.{arith}
 use borrow.Author.Tests.{lt-ltb, le-ltb, ltb-false}
@@ -15,10 +14,12 @@ use lib.Seq.{drop-cons}
 use Rattle.format.proofs.Tests.{same-of, or-none, one-or, one-last, one-passed}
 use Rattle.layout.specs.Columns.{hasFamily}
 use Rattle.layout.specs.declared.columns.Family.{Family}
-use Rattle.frames.specs.Input.{rowsOf}
-use Rattle.frames.specs.Judge.{falls, strays, given, misleads}
-use Rattle.frames.specs.Accepted.{Ranges, Placed}
-use Rattle.frames.specs.declared.input.Frames.{Frames}
+use Rattle.game.specs.Frames.{rowsOf}
+use Rattle.frames.specs.Judge.{falls, strays, leftOver, misleads}
+use Rattle.players.specs.Inner.{Ranges}
+use Rattle.players.proofs.CountLaws.{rises}
+use Rattle.frames.specs.Inner.{Placed}
+use Rattle.game.specs.declared.frames.Frames.{Frames}
 
 -- ---- a fall, in a loop: r is what is left to find from the offset before index i on
 falls-step : (os : List ℕ) (j : ℕ) → j + 1 < length os → falls (drop j os) ≡ (ltb (getD os (j + 1) 0) (getD os j 0) || falls (drop (j + 1) os))
@@ -55,7 +56,7 @@ module _ (f : Frames) (family : Family) (os : List ℕ) (t : Bool) (e : t ≡ ha
   misleads-has r h q = rw (← e, h, ← k) q
 
   pub misleads-lacks : t ≡ false → (not (eqb (length os) 0) || not (eqb rows 0)) ≡ misleads f family os
-  unfolding misleads given
+  unfolding misleads leftOver
   misleads-lacks h = rw (← e, h, ← k) (one-or _ _ _ _ refl (one-last _ _ refl))
 
 -- ---- where none falls
@@ -67,13 +68,6 @@ falls-none-at (a ∷ b ∷ os) e zero h = ltb-false b a (or-none (ltb b a) (fall
 falls-none-at (a ∷ b ∷ os) e (suc i) h =
     let step : suc i + 1 ≡ suc (i + 1) = omega arith in
     rw step (falls-none-at (b ∷ os) (or-none (ltb b a) (falls (b ∷ os)) e .1) i (omega arith))
-
--- what rises by steps rises
-rises : (os : List ℕ) (n : ℕ) → ((i : ℕ) → i < n → getD os i 0 ≤ getD os (i + 1) 0) → (i d : ℕ) → i + d ≤ n → getD os i 0 ≤ getD os (i + d) 0
-rises os n up i zero h = rw add-zero (le-refl (getD os i 0))
-rises os n up i (suc d) h =
-    let place : i + suc d ≡ i + d + 1 = omega arith in
-    rw place (omega (arith, rises os n up i d (omega arith), up (i + d) (omega arith)))
 
 pub ranges : (frames rows : ℕ) (os : List ℕ) → strays frames rows os ≡ false → Ranges frames rows os
 unfolding strays
@@ -96,7 +90,7 @@ ranges frames rows os e =
     }
 
 pub placed : (f : Frames) (family : Family) (os : List ℕ) → misleads f family os ≡ false → Placed f family os
-unfolding misleads given
+unfolding misleads leftOver
 placed f family os e = record {
   has = λ h. ranges (f .counts .frames) (rowsOf f family) os (rw h at e);
   lacks = λ h.

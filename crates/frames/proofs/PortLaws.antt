@@ -12,12 +12,14 @@ use lib.ListN.{length, getD, drop, length-map, drop-of-length-le, List·getD-map
 use lib.Seq.{drop-cons}
 use Rattle.format.proofs.Tests.{or-none, one-here, one-skip, one-last, one-passed, rest-each}
 use Rattle.layout.specs.Columns.{sum}
-use Rattle.frames.specs.Input.{noPort, portsOf, follows}
-use Rattle.frames.specs.Judge.{oneOf, uneven, portUneven, portNumbers, twice, portsWrong}
-use Rattle.frames.specs.Accepted.{Ported}
-use Rattle.frames.specs.declared.input.PortColumn.{PortColumn}
-use Rattle.frames.specs.declared.input.Frames.{Frames}
-use Rattle.frames.proofs.SlotLaws.{length-ports, port-at}
+use Rattle.game.specs.Frames.{noPort, portsOf, follows}
+use Rattle.format.specs.Refusal.{oneOf}
+use Rattle.players.specs.Presence.{uneven, portUneven}
+use Rattle.frames.specs.Judge.{portNumbers, twice, portsWrong}
+use Rattle.frames.specs.Inner.{Ported}
+use Rattle.game.specs.declared.frames.PortColumn.{PortColumn}
+use Rattle.game.specs.declared.frames.Frames.{Frames}
+use Rattle.game.proofs.Ports.{length-ports, port-at}
 
 -- ---- presence bytes
 pub even-none : (frames len : ℕ) → len ≡ 0 → false ≡ uneven frames len

@@ -1,18 +1,18 @@
 -- Refusals 1 to 7: what is judged of a frame input and the stores lent with it.
 -- Assumes nothing.
-use Prim.Native.Nat.{ℕ, zero, suc, _+_, _*_, _/_, _^_}
+use Prim.Native.Nat.{ℕ, zero, suc, _+_, _*_, _^_}
 use mathlib.Core.Bool.{Bool, false, not, cond, _||_}
 use mathlib.Core.List.{List, [], _∷_, map}
 use lib.Dec.{ltb, leb, eqb}
 use lib.ListN.{length, getD, take, drop}
 use Rattle.format.specs.Version.{acceptedOf}
-unfoldable pub use Rattle.format.specs.Refusal.{oneOf}
-use Rattle.layout.specs.Columns.{hasFamily, widthsOf, sum}
+use Rattle.format.specs.Refusal.{Refusal, refuse, oneOf}
+use Rattle.layout.specs.Columns.{hasFamily, widthsOf}
 use Rattle.layout.specs.declared.columns.Family.{Family}
-use Rattle.frames.specs.Input.{portsOf, follows, portBytes, rowsOf, blocksOf}
-use Rattle.frames.specs.Stores.{Cells, Offsets, Lent, families, offsetFamilies, cellsOf, offsetsOf}
-use Rattle.frames.specs.declared.input.PortColumn.{PortColumn}
-use Rattle.frames.specs.declared.input.Frames.{Frames}
+use Rattle.game.specs.Frames.{portsOf, rowsOf, slotBlocks}
+use Rattle.game.specs.Stores.{Cells, Offsets, Lent, families, offsetFamilies, cellsOf, offsetsOf}
+use Rattle.game.specs.declared.frames.Frames.{Frames}
+use Rattle.players.specs.Presence.{presenceWrong}
 
 -- 1: version above 3.18.0
 abbrev pub tooNew : Frames → Bool
@@ -33,7 +33,7 @@ tooMany f codes metadata =
 
 -- 3: a cell store's length is not columns of this version times rows (times slots): one family's store, then any; ids is one column
 unfoldable pub misfits : Frames → Family → List ℕ → Bool
-misfits f family store = not (eqb (length store) (blocksOf f family * (length (widthsOf family (f .version)) * rowsOf f family)))
+misfits f family store = not (eqb (length store) (slotBlocks f family * (length (widthsOf family (f .version)) * rowsOf f family)))
 
 unfoldable pub storesMisfit : Frames → Cells → Bool
 storesMisfit f c = oneOf (not (eqb (length (c .ids)) (f .counts .frames)) ∷ map (λ family. misfits f family (cellsOf c family)) families)
@@ -54,7 +54,7 @@ blocksExceed (suc n) ws rows cells = columnsExceed ws rows cells || blocksExceed
 
 -- one family's store, then any
 unfoldable pub exceeds : Frames → Family → List ℕ → Bool
-exceeds f family store = blocksExceed (blocksOf f family) (widthsOf family (f .version)) (rowsOf f family) store
+exceeds f family store = blocksExceed (slotBlocks f family) (widthsOf family (f .version)) (rowsOf f family) store
 
 unfoldable pub cellsExceed : Frames → Cells → Bool
 cellsExceed f c = oneOf (map (λ family. exceeds f family (cellsOf c family)) families)
@@ -70,33 +70,17 @@ unfoldable pub strays : ℕ → ℕ → List ℕ → Bool
 strays frames rows os =
     oneOf (not (eqb (length os) (frames + 1)) ∷ not (eqb (getD os 0 0) 0) ∷ falls os ∷ not (eqb (getD os frames 0) rows) ∷ [])
 
--- a family that it lacks
-unfoldable pub given : ℕ → List ℕ → Bool
-given rows os = oneOf (not (eqb (length os) 0) ∷ not (eqb rows 0) ∷ [])
+-- a family that it lacks: what is left over
+unfoldable pub leftOver : ℕ → List ℕ → Bool
+leftOver rows os = oneOf (not (eqb (length os) 0) ∷ not (eqb rows 0) ∷ [])
 
 unfoldable pub misleads : Frames → Family → List ℕ → Bool
-misleads f family os = cond (hasFamily (f .version) family) (strays (f .counts .frames) (rowsOf f family) os) (given (rowsOf f family) os)
+misleads f family os = cond (hasFamily (f .version) family) (strays (f .counts .frames) (rowsOf f family) os) (leftOver (rowsOf f family) os)
 
 unfoldable pub offsetsMislead : Frames → Offsets → Bool
 offsetsMislead f o = oneOf (map (λ family. misleads f family (offsetsOf o family)) offsetFamilies)
 
--- 6: presence bits neither empty nor ceil(frames/8) bytes, a follower's where there is none, or another number of bytes in all
-unfoldable pub uneven : ℕ → ℕ → Bool
-uneven frames len = not (eqb len 0 || eqb len ((frames + 7) / 8))
-
--- one port column, then any
-unfoldable pub portUneven : ℕ → PortColumn → Bool
-portUneven frames p =
-    oneOf
-    (uneven frames (p .«leader_presence»)
-    ∷ cond (follows p) (uneven frames (p .«follower_presence»)) (not (eqb (p .«follower_presence») 0))
-    ∷ [])
-
-unfoldable pub portsUneven : Frames → Bool
-portsUneven f = oneOf (map (portUneven (f .counts .frames)) (portsOf f))
-
-unfoldable pub presenceWrong : Frames → List ℕ → Bool
-presenceWrong f bits = oneOf (portsUneven f ∷ not (eqb (length bits) (sum (map portBytes (portsOf f)))) ∷ [])
+-- 6: presenceWrong of players/specs/Presence.antt
 
 -- 7: over four port columns, a port above 3, or a port twice
 unfoldable pub portNumbers : Frames → List ℕ
@@ -110,13 +94,13 @@ unfoldable pub portsWrong : Frames → Bool
 portsWrong f = oneOf (ltb 4 (f .«port_count») ∷ oneOf (map (ltb 3) (portNumbers f)) ∷ twice (portNumbers f) ∷ [])
 
 -- in their order: the lowest that applies is given
-unfoldable pub refusals : Frames → Lent → ℕ → ℕ → List Bool
+unfoldable pub refusals : Frames → Lent → ℕ → ℕ → List Refusal
 refusals f s codes metadata =
-    tooNew f
-    ∷ tooMany f codes metadata
-    ∷ storesMisfit f (s .cells)
-    ∷ cellsExceed f (s .cells)
-    ∷ offsetsMislead f (s .offsets)
-    ∷ presenceWrong f (s .presence)
-    ∷ portsWrong f
+    refuse 1 (tooNew f)
+    ∷ refuse 2 (tooMany f codes metadata)
+    ∷ refuse 3 (storesMisfit f (s .cells))
+    ∷ refuse 4 (cellsExceed f (s .cells))
+    ∷ refuse 5 (offsetsMislead f (s .offsets))
+    ∷ refuse 6 (presenceWrong f (s .presence))
+    ∷ refuse 7 (portsWrong f)
     ∷ []

@@ -1,5 +1,2 @@
-pub mod Input
-pub mod Presence
-pub mod Stores
 pub mod Judge
-pub mod Accepted
+pub mod Inner

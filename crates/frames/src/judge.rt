@@ -1,14 +1,33 @@
 // The judge: the lowest of refusals 1 to 7 that applies to a frame input and the stores lent with it.
 ghost use mathlib.Core.Path.{_≡_};
 ghost use Rattle.format.specs.Refusal.{lowest};
-ghost use Rattle.frames.specs.Stores.{cells, offsets, lent};
+ghost use Rattle.game.specs.Stores.{cells, offsets, lent};
 ghost use Rattle.frames.specs.Judge.{tooNew, tooMany, refusals};
-use super::input::Frames;
 use super::offsets::offsets_mislead;
 use super::ports::ports_wrong;
 use super::ports::presence_wrong;
 use super::stores::cells_exceed;
 use super::stores::stores_misfit;
+use format::frame_id::FrameId;
+use format::refusal::BAD_OFFSETS;
+use format::refusal::BAD_PORTS;
+use format::refusal::BAD_PRESENCE;
+use format::refusal::BAD_STORE;
+use format::refusal::TOO_MANY;
+use format::refusal::VERSION_TOO_NEW;
+use format::refusal::WIDE_CELL;
+use game::frames::Frames;
+
+// The maxima: of frames (as many as there are ids), of items, of the rows of each stage's family, and of the bytes of codes and metadata.
+pub const MAX_FRAMES: usize = FrameId::COUNT;
+
+pub const MAX_ITEMS: usize = 4_194_304;
+
+pub const MAX_STAGE_ROWS: usize = 1_048_576;
+
+pub const MAX_CODES: usize = 16_777_216;
+
+pub const MAX_METADATA: usize = 65_535;
 
 pub fn too_new(f: Frames) -> bool
     ensures { λ r. ⌜ r ≡ tooNew f ⌝ }
@@ -19,11 +38,11 @@ pub fn too_new(f: Frames) -> bool
 pub fn too_many(f: Frames, codes: usize, metadata: usize) -> bool
     ensures { λ r. ⌜ r ≡ tooMany f codes metadata ⌝ }
 {
-    let fods = 1_048_576 < f.counts.fods;
-    let whispys = 1_048_576 < f.counts.whispys;
-    let stadiums = 1_048_576 < f.counts.stadiums;
-    let rest = fods | (whispys | (stadiums | ((16_777_216 < codes) | (65_535 < metadata))));
-    (1_048_576 < f.counts.frames) | ((4_194_304 < f.counts.items) | rest)
+    let fods = MAX_STAGE_ROWS < f.counts.fods;
+    let whispys = MAX_STAGE_ROWS < f.counts.whispys;
+    let stadiums = MAX_STAGE_ROWS < f.counts.stadiums;
+    let rest = fods | (whispys | (stadiums | ((MAX_CODES < codes) | (MAX_METADATA < metadata))));
+    (MAX_FRAMES < f.counts.frames) | ((MAX_ITEMS < f.counts.items) | rest)
 }
 
 // The codes and the metadata are lengths in bytes, 0 where there are none: only their maxima are judged here.
@@ -46,16 +65,17 @@ pub fn judge(
     codes: usize,
     metadata: usize,
 ) -> u8
-    ensures { λ r. ⌜ r ≡ lowest 1 (refusals f (lent
-        (cells (now (ids .entry)) (now (starts .entry)) (now (pres .entry)) (now (posts .entry)) (now (ends .entry)) (now (items .entry)) (now (fods .entry)) (now (whispys .entry)) (now (stadiums .entry)))
+    ensures { λ r. ⌜ r ≡ lowest (refusals f (lent
+        (cells (now (ids .entry)) (now (starts .entry)) (now (pres .entry)) (now (posts .entry)) (now (ends .entry))
+        (now (items .entry)) (now (fods .entry)) (now (whispys .entry)) (now (stadiums .entry)))
         (offsets (now («item_offsets» .entry)) (now («fod_offsets» .entry)) (now («whispy_offsets» .entry)) (now («stadium_offsets» .entry)))
         (now (presence .entry))) codes metadata) ⌝ }
 {
     if too_new(f) {
-        return 1;
+        return VERSION_TOO_NEW;
     }
     if too_many(f, codes, metadata) {
-        return 2;
+        return TOO_MANY;
     }
     if stores_misfit(
         f,
@@ -69,7 +89,7 @@ pub fn judge(
         whispys,
         stadiums,
     ) {
-        return 3;
+        return BAD_STORE;
     }
     if cells_exceed(
         f,
@@ -83,7 +103,7 @@ pub fn judge(
         whispys,
         stadiums,
     ) {
-        return 4;
+        return WIDE_CELL;
     }
     if offsets_mislead(
         f,
@@ -92,13 +112,13 @@ pub fn judge(
         whispy_offsets,
         stadium_offsets,
     ) {
-        return 5;
+        return BAD_OFFSETS;
     }
     if presence_wrong(f, presence) {
-        return 6;
+        return BAD_PRESENCE;
     }
     if ports_wrong(f) {
-        return 7;
+        return BAD_PORTS;
     }
     0
 }

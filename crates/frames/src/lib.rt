@@ -1,8 +1,5 @@
-// The writer's frame input, and the judge of the refusals that every call over it shares.
-pub mod input;
+// The judge of the refusals that every call over a frame input shares.
 pub mod judge;
 mod offsets;
 mod ports;
-pub mod presence;
-pub mod slots;
 mod stores;

@@ -1,10 +1,10 @@
 // Refusal 5: the offsets, by which a frame finds its rows.
 ghost use mathlib.Core.Path.{_≡_};
 ghost use Prim.Native.Nat.{_≤_};
-ghost use Rattle.frames.specs.Stores.{offsets};
+ghost use Rattle.game.specs.Stores.{offsets};
 ghost use Rattle.frames.specs.Judge.{falls, strays, misleads, offsetsMislead};
-ghost use Rattle.frames.specs.Accepted.{Modest};
-use super::input::Frames;
+ghost use Rattle.players.specs.Inner.{Modest};
+use game::frames::Frames;
 use layout::columns::Family;
 
 // Whether an offset is below the one before it.

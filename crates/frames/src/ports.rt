@@ -6,11 +6,13 @@ ghost use Prim.Native.Nat.{_+_, _≤_, _<_};
 ghost use lib.Dec.{ltb, eqb};
 ghost use lib.ListN.{length, getD, drop};
 ghost use Rattle.layout.specs.Columns.{sum};
-ghost use Rattle.frames.specs.Input.{portsOf, portBytes};
-ghost use Rattle.frames.specs.Judge.{oneOf, uneven, portUneven, portsUneven, presenceWrong, portNumbers, twice, portsWrong};
-ghost use Rattle.frames.specs.Accepted.{Modest};
-use super::input::Frames;
-use super::input::PortColumn;
+ghost use Rattle.game.specs.Frames.{portsOf, portBytes};
+ghost use Rattle.format.specs.Refusal.{oneOf};
+ghost use Rattle.players.specs.Presence.{uneven, portUneven, portsUneven, presenceWrong};
+ghost use Rattle.frames.specs.Judge.{portNumbers, twice, portsWrong};
+ghost use Rattle.players.specs.Inner.{Modest};
+use game::frames::Frames;
+use game::frames::PortColumn;
 
 // Whether len bytes are neither none nor a bit for each frame.
 fn is_uneven(frames: usize, len: usize) -> bool

@@ -6,15 +6,17 @@ ghost use Prim.Native.Nat.{ℕ, _+_, _*_, _-_, _^_, _≤_};
 ghost use lib.Dec.{leb};
 ghost use lib.ListN.{length, drop};
 ghost use Rattle.wire.specs.Wire.{part};
-ghost use Rattle.frames.specs.Stores.{cells};
-ghost use Rattle.frames.specs.Judge.{oneOf, misfits, storesMisfit, over, columnsExceed, blocksExceed, exceeds, cellsExceed};
-ghost use Rattle.frames.specs.Accepted.{Modest, runWidths, Whole};
-use super::input::Frames;
-use super::slots::blocks;
+ghost use Rattle.game.specs.Stores.{cells};
+ghost use Rattle.format.specs.Refusal.{oneOf};
+ghost use Rattle.frames.specs.Judge.{misfits, storesMisfit, over, columnsExceed, blocksExceed, exceeds, cellsExceed};
+ghost use Rattle.players.specs.Inner.{Modest};
+ghost use Rattle.frames.specs.Inner.{runWidths, Whole};
+use game::frames::Frames;
 use layout::columns::Family;
-use layout::plan::Plan;
-use layout::plan::columns;
-use layout::plan::planned;
+use layout::listing::Runs;
+use layout::listing::columns;
+use layout::listing::runs_of;
+use players::slots::blocks;
 
 // Whether a family's store has another length than its blocks, columns and rows make.
 fn store_misfits(f: Frames, family: Family, store: &[u32]) -> bool
@@ -55,15 +57,15 @@ fn run_exceeds(cells: &[u32], at: usize, end: usize, width: u8) -> bool
 }
 
 // Whether a cell of the block at index at exceeds its column's width: the columns of a run have one width, and stand together.
-fn block_exceeds(plan: Plan, cells: &[u32], at: usize, rows: usize) -> bool
-    requires { ⌜ Whole plan × (at + length (runWidths plan) * rows ≤ length (now cells)) ⌝ }
-    ensures { λ r. ⌜ r ≡ columnsExceed (runWidths plan) rows (drop at (now (cells .entry))) ⌝ }
+fn block_exceeds(runs: Runs, cells: &[u32], at: usize, rows: usize) -> bool
+    requires { ⌜ Whole runs × (at + length (runWidths runs) * rows ≤ length (now cells)) ⌝ }
+    ensures { λ r. ⌜ r ≡ columnsExceed (runWidths runs) rows (drop at (now (cells .entry))) ⌝ }
 {
     let mut from = at;
     let mut k: usize = 0;
-    while k < plan.runs {
-        let width = plan.widths[k];
-        let n = plan.lengths[k] as usize;
+    while k < runs.count {
+        let width = runs.widths[k];
+        let n = runs.lengths[k] as usize;
         let end = from + n * rows;
         if run_exceeds(cells, from, end, width) {
             return true;
@@ -74,17 +76,17 @@ fn block_exceeds(plan: Plan, cells: &[u32], at: usize, rows: usize) -> bool
     false
 }
 
-fn blocks_exceed(plan: Plan, cells: &[u32], blocks: usize, rows: usize) -> bool
-    requires { ⌜ Whole plan × (blocks * (length (runWidths plan) * rows) ≤ length (now cells)) ⌝ }
-    ensures { λ r. ⌜ r ≡ blocksExceed blocks (runWidths plan) rows (now (cells .entry)) ⌝ }
+fn blocks_exceed(runs: Runs, cells: &[u32], blocks: usize, rows: usize) -> bool
+    requires { ⌜ Whole runs × (blocks * (length (runWidths runs) * rows) ≤ length (now cells)) ⌝ }
+    ensures { λ r. ⌜ r ≡ blocksExceed blocks (runWidths runs) rows (now (cells .entry)) ⌝ }
 {
     let mut at: usize = 0;
     let mut k: usize = 0;
     while k < blocks {
-        if block_exceeds(plan, cells, at, rows) {
+        if block_exceeds(runs, cells, at, rows) {
             return true;
         }
-        at += plan.columns * rows;
+        at += runs.columns * rows;
         k += 1;
     }
     false
@@ -96,9 +98,9 @@ fn store_exceeds(f: Frames, family: Family, store: &[u32]) -> bool
     ensures { λ r. ⌜ r ≡ exceeds f family (now (store .entry)) ⌝ }
 {
     let rows = f.rows(family);
-    let plan = planned(family, f.version);
+    let runs = runs_of(family, f.version);
     let blocks = blocks(f, family);
-    blocks_exceed(plan, store, blocks, rows)
+    blocks_exceed(runs, store, blocks, rows)
 }
 
 // 3: a cell store's length is not columns of this version times rows (times slots).
@@ -115,7 +117,9 @@ pub fn stores_misfit(
     stadiums: &[u32],
 ) -> bool
     requires { ⌜ Modest f ⌝ }
-    ensures { λ r. ⌜ r ≡ storesMisfit f (cells (now (ids .entry)) (now (starts .entry)) (now (pres .entry)) (now (posts .entry)) (now (ends .entry)) (now (items .entry)) (now (fods .entry)) (now (whispys .entry)) (now (stadiums .entry))) ⌝ }
+    ensures { λ r. ⌜ r ≡ storesMisfit f (cells
+        (now (ids .entry)) (now (starts .entry)) (now (pres .entry)) (now (posts .entry)) (now (ends .entry))
+        (now (items .entry)) (now (fods .entry)) (now (whispys .entry)) (now (stadiums .entry))) ⌝ }
 {
     let start = store_misfits(f, Family::FrameStart, starts);
     let pre = store_misfits(f, Family::Pre, pres);
@@ -142,8 +146,12 @@ pub fn cells_exceed(
     whispys: &[u32],
     stadiums: &[u32],
 ) -> bool
-    requires { ⌜ storesMisfit f (cells (now ids) (now starts) (now pres) (now posts) (now ends) (now items) (now fods) (now whispys) (now stadiums)) ≡ false ⌝ }
-    ensures { λ r. ⌜ r ≡ cellsExceed f (cells (now (ids .entry)) (now (starts .entry)) (now (pres .entry)) (now (posts .entry)) (now (ends .entry)) (now (items .entry)) (now (fods .entry)) (now (whispys .entry)) (now (stadiums .entry))) ⌝ }
+    requires { ⌜ storesMisfit f (cells
+        (now ids) (now starts) (now pres) (now posts) (now ends)
+        (now items) (now fods) (now whispys) (now stadiums)) ≡ false ⌝ }
+    ensures { λ r. ⌜ r ≡ cellsExceed f (cells
+        (now (ids .entry)) (now (starts .entry)) (now (pres .entry)) (now (posts .entry)) (now (ends .entry))
+        (now (items .entry)) (now (fods .entry)) (now (whispys .entry)) (now (stadiums .entry))) ⌝ }
 {
     let start = store_exceeds(f, Family::FrameStart, starts);
     let pre = store_exceeds(f, Family::Pre, pres);

@@ -20,7 +20,8 @@ use Rattle.format.specs.Version.{gteOf}
 use Rattle.layout.specs.Columns.{chosen, widthsOf, hasFamily}
 use Rattle.layout.specs.declared.columns.Family.{Family}
 use Rattle.layout.specs.declared.columns.Family.the-variants.{Pre, Post, FrameStart, Item, FrameEnd, FodPlatform, DreamlandWhispy, StadiumTransformation}
-use Rattle.layout.specs.Payloads.{eventOf, recordSize, endSize, order, listed, payloadSize, entryOf, entriesOf, paired, Tabled}
+use Rattle.layout.specs.Payloads.{eventOf, recordSize, endSize, order, listed, payloadSize, entryOf, entriesOf}
+use Rattle.layout.specs.Inner.{paired, Tabled}
 use Rattle.layout.specs.declared.payloads.PayloadSizes.{PayloadSizes}
 use Rattle.layout.proofs.Laws.{both, both-left, both-right, both-of, head-small, sum-narrow, narrow-of, few-widths, length-chosen}
 

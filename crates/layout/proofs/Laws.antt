@@ -4,20 +4,19 @@ use mathlib.Core.Path.{_≡_, refl, sym, ap, _∙_}
 use mathlib.Core.Bool.{Bool, true, false, cond}
 use mathlib.Core.List.{List, [], _∷_, _++_, map, append-assoc, append-nil}
 use Prim.Native.Nat.{ℕ, _+_, _*_, _/_, _%_, _≤_, _<_}
-use native.Mathlib.Nat.{add-zero, zero-add, add-assoc, add-suc, suc-add, mul-suc, le-antisymm}
-use native.Mathlib.Numerals.{add-one, add-two, add-three}
+use native.Mathlib.Nat.{add-zero, zero-add, add-assoc}
+use native.Mathlib.Numerals.{add-one}
 use native.Mathlib.Omega.{arith}
 use lib.Dec.{T, leb, leb→le, lit≤}
 use lib.ListN.{length, take, drop, set, getD, drop-of-length-le, List·getD-map}
-use lib.Seq.{getD-take, getD-drop, drop-cons, take-suc-set, length-take-le}
-use borrow.Author.Tests.{lt-ltb, le-ltb, eq-eqb, ne-eqb}
+use lib.Seq.{getD-take, getD-drop, drop-cons, take-suc-set}
 use Rattle.format.specs.declared.version.Version.{Version}
 use Rattle.format.specs.Version.{gteOf}
 use Rattle.layout.specs.declared.columns.Column.{Column}
 use Rattle.layout.specs.declared.columns.Family.{Family}
 use Rattle.layout.specs.declared.columns.Family.the-variants.{Pre, Post, FrameStart, Item, FrameEnd, FodPlatform, DreamlandWhispy, StadiumTransformation}
-use Rattle.layout.specs.Columns.{col, columnsOf, chosen, since, sum, widthsOf, Narrow}
-use Rattle.layout.specs.Table.{table, firstOf, countOf}
+use Rattle.layout.specs.Columns.{col, columnsOf, chosen, since, sum, widthsOf}
+use Rattle.layout.specs.Inner.{Narrow, table, firstColumn, countOf}
 use Rattle.layout.specs.Payloads.{headSize}
 
 -- a column as a number of the code's table, and the column that the code makes of a number
@@ -36,54 +35,37 @@ unpacked = refl
 pub entry-is : (i : ℕ) → unpack (getD (packed table) i 0) ≡ getD table i (col 0 0 0)
 entry-is i = sym (List·getD-map unpack (packed table) i 0) ∙ ap (λ (l : List Column). getD l i (col 0 0 0)) unpacked
 
--- a family's columns are a part of the table
-family : (f : Family) → take (countOf f) (drop (firstOf f) table) ≡ columnsOf f
-unfolding table columnsOf
-family Pre = refl
-family Post = refl
-family FrameStart = refl
-family Item = refl
-family FrameEnd = refl
-family FodPlatform = refl
-family DreamlandWhispy = refl
-family StadiumTransformation = refl
+-- what holds of each family holds of any
+pub each : (P : Family → Type 0) → P Pre × P Post × P FrameStart × P Item × P FrameEnd × P FodPlatform × P DreamlandWhispy × P StadiumTransformation → (f : Family) → P f
+each P h Pre = h .0
+each P h Post = h .1
+each P h FrameStart = h .2
+each P h Item = h .3
+each P h FrameEnd = h .4
+each P h FodPlatform = h .5
+each P h DreamlandWhispy = h .6
+each P h StadiumTransformation = h .7
 
-pub fits : (f : Family) → firstOf f + countOf f ≤ 75
-fits Pre = lit≤ tt
-fits Post = lit≤ tt
-fits FrameStart = lit≤ tt
-fits Item = lit≤ tt
-fits FrameEnd = lit≤ tt
-fits FodPlatform = lit≤ tt
-fits DreamlandWhispy = lit≤ tt
-fits StadiumTransformation = lit≤ tt
+-- a family's columns are a part of the table
+family : (f : Family) → take (countOf f) (drop (firstColumn f) table) ≡ columnsOf f
+unfolding table columnsOf
+family = each _ (refl, refl, refl, refl, refl, refl, refl, refl)
+
+pub fits : (f : Family) → firstColumn f + countOf f ≤ 75
+fits = each _ (lit≤ tt, lit≤ tt, lit≤ tt, lit≤ tt, lit≤ tt, lit≤ tt, lit≤ tt, lit≤ tt)
 
 pub count-is : (f : Family) → length (columnsOf f) ≡ countOf f
 unfolding columnsOf
-count-is Pre = refl
-count-is Post = refl
-count-is FrameStart = refl
-count-is Item = refl
-count-is FrameEnd = refl
-count-is FodPlatform = refl
-count-is DreamlandWhispy = refl
-count-is StadiumTransformation = refl
+count-is = each _ (refl, refl, refl, refl, refl, refl, refl, refl)
 
-pub family-at : (f : Family) (i : ℕ) → i < countOf f → getD table (firstOf f + i) (col 0 0 0) ≡ getD (columnsOf f) i (col 0 0 0)
+pub family-at : (f : Family) (i : ℕ) → i < countOf f → getD table (firstColumn f + i) (col 0 0 0) ≡ getD (columnsOf f) i (col 0 0 0)
 family-at f i h =
-    sym (getD-drop (firstOf f) table i (col 0 0 0))
-    ∙ sym (getD-take (countOf f) (drop (firstOf f) table) i (col 0 0 0) h)
+    sym (getD-drop (firstColumn f) table i (col 0 0 0))
+    ∙ sym (getD-take (countOf f) (drop (firstColumn f) table) i (col 0 0 0) h)
     ∙ ap (λ (l : List Column). getD l i (col 0 0 0)) (family f)
 
 pub small : (f : Family) → countOf f ≤ 32
-small Pre = lit≤ tt
-small Post = lit≤ tt
-small FrameStart = lit≤ tt
-small Item = lit≤ tt
-small FrameEnd = lit≤ tt
-small FodPlatform = lit≤ tt
-small DreamlandWhispy = lit≤ tt
-small StadiumTransformation = lit≤ tt
+small = each _ (lit≤ tt, lit≤ tt, lit≤ tt, lit≤ tt, lit≤ tt, lit≤ tt, lit≤ tt, lit≤ tt)
 
 -- ---- a loop that collects what is chosen of a list into an array: ws has what was chosen before element i, in its first n places
 module _ {A : Type 0} (d : A) (p : A → Bool) (f : A → ℕ) (xs : List A) where
@@ -161,14 +143,7 @@ narrow-since v (c ∷ cs) t =
 
 slim-family : (f : Family) → T (slim (columnsOf f))
 unfolding columnsOf
-slim-family Pre = tt
-slim-family Post = tt
-slim-family FrameStart = tt
-slim-family Item = tt
-slim-family FrameEnd = tt
-slim-family FodPlatform = tt
-slim-family DreamlandWhispy = tt
-slim-family StadiumTransformation = tt
+slim-family = each _ (tt, tt, tt, tt, tt, tt, tt, tt)
 
 pub narrow-of : (f : Family) (v : Version) → Narrow (widthsOf f v)
 narrow-of f v = narrow-since v (columnsOf f) (slim-family f)
@@ -194,11 +169,4 @@ sum-narrow [] n = lit≤ tt
 sum-narrow (w ∷ ws) n = omega (arith, n .0, sum-narrow ws (n .1))
 
 pub head-small : (f : Family) → headSize f ≤ 6
-head-small Pre = lit≤ tt
-head-small Post = lit≤ tt
-head-small FrameStart = lit≤ tt
-head-small Item = lit≤ tt
-head-small FrameEnd = lit≤ tt
-head-small FodPlatform = lit≤ tt
-head-small DreamlandWhispy = lit≤ tt
-head-small StadiumTransformation = lit≤ tt
+head-small = each _ (lit≤ tt, lit≤ tt, lit≤ tt, lit≤ tt, lit≤ tt, lit≤ tt, lit≤ tt, lit≤ tt)

@@ -1,22 +1,20 @@
 -- The table's rule, proved once: no family has a column that is older than one before it, so a version's columns are the first of them.
 -- Assumes nothing.
-use mathlib.Core.Path.{_≡_, refl, sym, ap, _∙_}
+use mathlib.Core.Path.{_≡_, refl, ap}
 use mathlib.Core.Bool.{Bool, true, false}
-use mathlib.Core.Logic.{⊎-elim, _⊎_, inl, inr}
+use mathlib.Core.Logic.{⊎-elim}
 use mathlib.Core.List.{List, [], _∷_, map}
-use Prim.Native.Nat.{ℕ, zero, suc, _≤_, _<_}
+use Prim.Native.Nat.{ℕ, _≤_, _<_}
 use native.Mathlib.Omega.{arith}
-use lib.Dec.{T, ltb, leb, eqb}
+use lib.Dec.{T}
 use lib.ListN.{length, take}
-use borrow.Author.Tests.{ltb-true, ltb-false, leb-true, leb-false, eqb-true, eqb-false, le-ltb, lt-leb}
 use Rattle.format.specs.declared.version.Version.{Version}
 use Rattle.format.specs.Version.{above, gteOf}
 use Rattle.format.proofs.Versions.{is-true, gte-holds, gte-fails, gte-below}
 use Rattle.layout.specs.declared.columns.Column.{Column}
 use Rattle.layout.specs.declared.columns.Family.{Family}
-use Rattle.layout.specs.declared.columns.Family.the-variants.{Pre, Post, FrameStart, Item, FrameEnd, FodPlatform, DreamlandWhispy, StadiumTransformation}
 use Rattle.layout.specs.Columns.{columnsOf, chosen, since, widthsOf}
-use Rattle.layout.proofs.Laws.{both, both-left, both-right}
+use Rattle.layout.proofs.Laws.{each, both, both-left, both-right}
 
 -- a version as old as a column
 abbrev pub of : Column → Version
@@ -64,14 +62,7 @@ prefix v (c ∷ cs) t = go (gteOf v (c .major) (c .minor)) refl (prefix v cs (bo
 -- the table's rule, by one test a family
 pub rule : (f : Family) → T (ascending (columnsOf f))
 unfolding columnsOf gteOf above
-rule Pre = tt
-rule Post = tt
-rule FrameStart = tt
-rule Item = tt
-rule FrameEnd = tt
-rule FodPlatform = tt
-rule DreamlandWhispy = tt
-rule StadiumTransformation = tt
+rule = each _ (tt, tt, tt, tt, tt, tt, tt, tt)
 
 -- a version's columns are the first of its family's
 pub prefix-of : (f : Family) (v : Version) → widthsOf f v ≡ take (length (widthsOf f v)) (widths (columnsOf f))

@@ -1,14 +1,14 @@
 -- The laws of runs: columns of one width, one after another.
 -- Assumes nothing.
-use mathlib.Core.Path.{_≡_, refl, sym, ap, ap₂, _∙_}
+use mathlib.Core.Path.{_≡_, sym, ap, ap₂, _∙_}
 use mathlib.Core.List.{List, [], _∷_, _++_, append-assoc, append-nil}
-use Prim.Native.Nat.{ℕ, suc, _+_, _≤_, _<_}
+use Prim.Native.Nat.{ℕ, _+_, _<_}
 use native.Mathlib.Numerals.{add-one}
 use native.Mathlib.Omega.{arith}
 use lib.ListN.{length, take, drop, set, getD, replicate, length-drop, replicate-append-replicate}
 use lib.Seq.{take-suc, drop-cons, getD-drop, take-suc-set, take-add, length-take-le}
 use Rattle.wire.specs.Wire.{part}
-use Rattle.layout.specs.Plan.{expand}
+use Rattle.layout.specs.Inner.{expand}
 
 -- a run of one, and one that grows
 pub run-start : (ws : List ℕ) (k : ℕ) → k < length ws → part ws k 1 ≡ replicate 1 (getD ws k 0)

@@ -1,7 +1,7 @@
 -- The payload sizes at every version where one changes, and at the version before, as one computed table.
 -- Assumes nothing.
 use mathlib.Core.Path.{_≡_, refl}
-use mathlib.Core.Bool.{Bool, true, cond}
+use mathlib.Core.Bool.{true, cond}
 use mathlib.Core.List.{List, [], _∷_, map}
 use Prim.Native.Nat.{ℕ}
 use Rattle.format.specs.Version.{version, above, gteOf}

@@ -1,8 +1,8 @@
 -- The columns of the eight families of frame records: each with its width in bytes and the first version that has it.
 -- Assumes nothing.
-use Prim.Native.Nat.{ℕ, _+_, _≤_}
+use Prim.Native.Nat.{ℕ, _+_}
 use mathlib.Core.Bool.{Bool, cond}
-use mathlib.Core.List.{List, [], _∷_, _++_}
+use mathlib.Core.List.{List, [], _∷_}
 use Rattle.format.specs.Version.{version, gteOf}
 use Rattle.format.specs.declared.version.Version.{Version}
 use Rattle.layout.specs.declared.columns.Column.{Column}
@@ -140,8 +140,3 @@ widthsOf f v = since v (columnsOf f)
 
 abbrev pub sizeOf : Family → Version → ℕ
 sizeOf f v = sum (widthsOf f v)
-
--- no width is over 4 bytes
-unfoldable pub Narrow : List ℕ → Type 0
-Narrow [] = Unit {0}
-Narrow (w ∷ ws) = (w ≤ 4) × Narrow ws

@@ -1,4 +1,3 @@
 pub mod Columns
-pub mod Table
-pub mod Plan
+pub mod Inner
 pub mod Payloads

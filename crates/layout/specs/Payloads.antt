@@ -1,20 +1,17 @@
 -- The payload table of a version: which events it lists, in which order, and their payloads' sizes.
 -- Assumes nothing.
-use Prim.Native.Nat.{ℕ, _+_, _%_, _≤_}
-use mathlib.Core.Path.{_≡_}
+use Prim.Native.Nat.{ℕ, _+_, _%_}
 use mathlib.Core.Bool.{Bool, true, false, cond}
 use mathlib.Core.List.{List, [], _∷_}
-use lib.ListN.{length, take}
 use Rattle.format.specs.Version.{gteOf}
 use Rattle.format.specs.Event.{codeOf}
-use Rattle.format.specs.File.{Entry, codes, sizes}
+use Rattle.format.specs.File.{Entry}
 use Rattle.format.specs.declared.version.Version.{Version}
 use Rattle.format.specs.declared.event.Event.{Event}
 use Rattle.format.specs.declared.event.Event.the-variants as event
 use Rattle.layout.specs.Columns.{chosen, hasFamily, sizeOf}
 use Rattle.layout.specs.declared.columns.Family.{Family}
 use Rattle.layout.specs.declared.columns.Family.the-variants.{Pre, Post, FrameStart, Item, FrameEnd, FodPlatform, DreamlandWhispy, StadiumTransformation}
-use Rattle.layout.specs.declared.payloads.PayloadSizes.{PayloadSizes}
 
 -- the event of a family's records
 abbrev pub eventOf : Family → Event
@@ -100,18 +97,3 @@ entryOf v block actual e = record { code = codeOf e; size = payloadSize v block 
 -- the table: an entry for each event listed, in order
 unfoldable pub entriesOf : Version → ℕ → Bool → ℕ → List Entry
 entriesOf v block given actual = chosen (listed v given) (entryOf v block actual) order
-
--- the entries of these codes and sizes
-unfoldable pub paired : List ℕ → List ℕ → List Entry
-paired (c ∷ cs) (s ∷ ss) = record { code = c; size = s } ∷ paired cs ss
-paired [] ss = []
-paired (c ∷ cs) [] = []
-
--- a table's codes and sizes in two arrays
-pub record Tabled (t : List Entry) (p : PayloadSizes) : Type 0 where
-  pub count : p .len ≡ length t
-  pub codes : take (p .len) (p .codes) ≡ codes t
-  pub sizes : take (p .len) (p .sizes) ≡ sizes t
-  pub few : p .len ≤ 12
-  pub codes-room : length (p .codes) ≡ 12
-  pub sizes-room : length (p .sizes) ≡ 12

@@ -3,7 +3,7 @@ ghost use mathlib.Core.Path.{_≡_};
 ghost use Prim.Native.Nat.{_<_};
 ghost use lib.ListN.{length, getD};
 ghost use Rattle.layout.specs.Columns.{col, columnsOf, firstVersion, hasFamily};
-ghost use Rattle.layout.specs.Table.{table, firstOf, countOf};
+ghost use Rattle.layout.specs.Inner.{table, firstColumn, countOf};
 use format::version::Version;
 
 pub enum Family {
@@ -75,7 +75,7 @@ impl Family {
 
     // Where its columns begin in the table.
     fn first(self) -> usize
-        ensures { λ r. ⌜ r ≡ firstOf self ⌝ }
+        ensures { λ r. ⌜ r ≡ firstColumn self ⌝ }
     {
         match self {
             Family::Pre => 0,

@@ -6,9 +6,10 @@ ghost use lib.ListN.{length, getD};
 ghost use Rattle.wire.specs.Wire.{Room, Wrote};
 ghost use Rattle.format.specs.Version.{gteOf};
 ghost use Rattle.format.specs.File.{entriesBytes, tableBytes};
-ghost use Rattle.layout.specs.Payloads.{eventOf, headSize, recordSize, endSize, order, listed, payloadSize, paired, entriesOf, Tabled};
+ghost use Rattle.layout.specs.Payloads.{eventOf, headSize, recordSize, endSize, order, listed, payloadSize, entriesOf};
+ghost use Rattle.layout.specs.Inner.{paired, Tabled};
 use super::columns::Family;
-use super::plan::size;
+use super::listing::size;
 use format::event::Event;
 use format::version::Version;
 

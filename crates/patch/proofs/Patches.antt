@@ -11,9 +11,10 @@ use lib.Seq.{drop-cons}
 use Rattle.wire.specs.Wire.{be, splice, keep, Wrote}
 use Rattle.wire.proofs.Laws.{length-splice}
 use Rattle.wire.proofs.Writers.{wrote-then, wrote-as}
-use Rattle.patch.specs.Patch.{Patch, patch, patched, Patched, numbers, Fit}
-use Rattle.patch.specs.Field.{text, filled}
-use Rattle.start.specs.declared.game.Text.{Text}
+use Rattle.patch.specs.Patch.{Patch, patch, patched}
+use Rattle.patch.specs.Field.{text, zeroFilled}
+use Rattle.patch.specs.Inner.{Patched, numberPatches, Fit}
+use Rattle.game.specs.declared.start.Text.{Text}
 
 -- ---- patches
 pub length-patched : (block : List ℕ) (ps : List Patch) → length (patched block ps) ≡ length block
@@ -67,17 +68,17 @@ fit-at n at (o ∷ os) (w ∷ ws) (v ∷ vs) (suc j) f h =
 
 module _ (at : ℕ) (os ws vs : List ℕ) (j : ℕ) where
   abbrev pub rest : List Patch
-  rest = numbers at (drop j os) (drop j ws) (drop j vs)
+  rest = numberPatches at (drop j os) (drop j ws) (drop j vs)
 
   -- a turn: the next number is put
   pub numbers-step : {out after : List ℕ} {next : ℕ} (all : List ℕ) → j < length os → j < length ws → j < length vs
       → Wrote out after (at + getD os j 0) next (be (getD ws j 0) (getD vs j 0))
-      → patched out rest ≡ all → patched after (numbers at (drop (j + 1) os) (drop (j + 1) ws) (drop (j + 1) vs)) ≡ all
-  unfolding patched numbers
+      → patched out rest ≡ all → patched after (numberPatches at (drop (j + 1) os) (drop (j + 1) ws) (drop (j + 1) vs)) ≡ all
+  unfolding patched numberPatches
   numbers-step all a b c w left = rw (add-one, w .after-is) (rw (drop-cons os j 0 a, drop-cons ws j 0 b, drop-cons vs j 0 c) at left)
 
   pub numbers-done : {out all : List ℕ} → length os ≤ j → patched out rest ≡ all → out ≡ all
-  unfolding patched numbers
+  unfolding patched numberPatches
   numbers-done h left = rw (drop-of-length-le os h) at left
 
 -- ---- a text, and zeros after it
@@ -87,11 +88,11 @@ take-replicate (suc m) zero a h = absurd (omega arith)
 take-replicate (suc m) (suc n) a h = ap (λ l. a ∷ l) (take-replicate m n a (omega arith))
 
 pub wrote-filled : {a b c : List ℕ} {at mid next : ℕ} (t : Text) (width n : ℕ) → width - t .len ≤ n
-    → Wrote a b at mid (take (t .len) (t .bytes)) → Wrote b c mid next (take (width - t .len) (replicate n 0)) → Wrote a c at next (filled width t)
-unfolding filled
+    → Wrote a b at mid (take (t .len) (t .bytes)) → Wrote b c mid next (take (width - t .len) (replicate n 0)) → Wrote a c at next (zeroFilled width t)
+unfolding zeroFilled
 wrote-filled t width n h p q = wrote-then p (wrote-as (take-replicate (width - t .len) n 0 h) q)
 
--- a text that is filled by one byte ends with one zero
-pub ended : (t : Text) → filled (t .len + 1) t ≡ text t ++ (0 ∷ [])
-unfolding filled
+-- a text that is zeroFilled by one byte ends with one zero
+pub ended : (t : Text) → zeroFilled (t .len + 1) t ≡ text t ++ (0 ∷ [])
+unfolding zeroFilled
 ended t = let e : t .len + 1 - t .len ≡ suc 0 = omega arith in rw e

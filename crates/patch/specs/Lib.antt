@@ -1,2 +1,3 @@
 pub mod Patch
 pub mod Field
+pub mod Inner

@@ -1,18 +1,16 @@
 // A block, patched in place: numbers and texts at their offsets.
 ghost use mathlib.Core.Path.{_≡_};
-ghost use mathlib.Core.Bool.{true, cond};
+ghost use mathlib.Core.Bool.{cond};
 ghost use Prim.Native.Nat.{_+_, _≤_};
 ghost use lib.ListN.{length, take};
 ghost use Rattle.wire.specs.Wire.{Wrote};
-ghost use Rattle.format.specs.Version.{gteOf};
-ghost use Rattle.patch.specs.Patch.{Patched, numbers, Fit};
-ghost use Rattle.patch.specs.Field.{flag, filled, textField, numberField};
-use format::version::Version;
-use start::game::Text;
+ghost use Rattle.patch.specs.Field.{flagOf, zeroFilled};
+ghost use Rattle.patch.specs.Inner.{Patched, numberPatches, Fit};
+use game::start::Text;
 
 // A mark as it is written.
 pub fn flag_of(mark: u8) -> u32
-    ensures { λ r. ⌜ r ≡ flag mark ⌝ }
+    ensures { λ r. ⌜ r ≡ flagOf mark ⌝ }
 {
     if mark == 0 {
         return 0;
@@ -33,7 +31,7 @@ pub fn width_if(on: bool) -> usize
 // A table of numbers from `at` on: the widths' low bytes of the values at the offsets.
 pub fn put_numbers(block: &mut [u8], at: usize, offsets: &[usize], widths: &[usize], values: &[u32])
     requires { ⌜ Fit (length (now block)) at (now offsets) (now widths) (now values) ⌝ }
-    ensures { λ r. ⌜ Patched (now (block .entry)) (now (block .exit)) (numbers at (now (offsets .entry)) (now (widths .entry)) (now (values .entry))) ⌝ }
+    ensures { λ r. ⌜ Patched (now (block .entry)) (now (block .exit)) (numberPatches at (now (offsets .entry)) (now (widths .entry)) (now (values .entry))) ⌝ }
 {
     let mut j = 0;
     while j < offsets.len() {
@@ -41,32 +39,6 @@ pub fn put_numbers(block: &mut [u8], at: usize, offsets: &[usize], widths: &[usi
         wire::put_be(block, p, widths[j], values[j]);
         j += 1;
     }
-}
-
-// A number, from major.minor on.
-pub fn put_number(
-    block: &mut [u8],
-    v: Version,
-    major: u8,
-    minor: u8,
-    at: usize,
-    width: usize,
-    value: u32,
-)
-    requires { ⌜ (width ≤ 4) × (gteOf v major minor ≡ true → at + width ≤ length (now block)) ⌝ }
-    ensures { λ r. ⌜ Patched (now (block .entry)) (now (block .exit)) (numberField v major minor at width value) ⌝ }
-{
-    if v.gte(major, minor) {
-        wire::put_be(block, at, width, value);
-    }
-}
-
-// A mark, from major.minor on.
-pub fn put_flag(block: &mut [u8], v: Version, major: u8, minor: u8, at: usize, mark: u8)
-    requires { ⌜ (gteOf v major minor ≡ true → at + 1 ≤ length (now block)) ⌝ }
-    ensures { λ r. ⌜ Patched (now (block .entry)) (now (block .exit)) (numberField v major minor at 1 (flag mark)) ⌝ }
-{
-    put_number(block, v, major, minor, at, 1, flag_of(mark));
 }
 
 // The first n bytes of src.
@@ -80,29 +52,11 @@ fn put_first(block: &mut [u8], at: usize, src: &[u8], n: usize) -> usize
 // A text, and zeros up to the field's width.
 pub fn put_filled(block: &mut [u8], at: usize, width: usize, t: Text) -> usize
     requires { ⌜ (t .len ≤ 50) × (t .len ≤ width) × (width ≤ 51) × (at + width ≤ length (now block)) ⌝ }
-    ensures { λ r. ⌜ Wrote (now (block .entry)) (now (block .exit)) at r (filled width t) ⌝ }
+    ensures { λ r. ⌜ Wrote (now (block .entry)) (now (block .exit)) at r (zeroFilled width t) ⌝ }
 {
     let zeros = [0u8; 51];
     let n = t.len;
     let rest = width - n;
     let next = put_first(block, at, &t.bytes, n);
     put_first(block, next, &zeros, rest)
-}
-
-// The same, from major.minor on.
-pub fn put_text(
-    block: &mut [u8],
-    v: Version,
-    major: u8,
-    minor: u8,
-    at: usize,
-    width: usize,
-    t: Text,
-)
-    requires { ⌜ (width ≤ 50) × (gteOf v major minor ≡ true → (t .len ≤ width) × (at + width ≤ length (now block))) ⌝ }
-    ensures { λ r. ⌜ Patched (now (block .entry)) (now (block .exit)) (textField v major minor at width t) ⌝ }
-{
-    if v.gte(major, minor) {
-        put_filled(block, at, width, t);
-    }
 }

@@ -17,7 +17,8 @@ use Rattle.wire.proofs.Writers.{Behind, behind-start, behind-step}
 use Rattle.format.specs.File.{eventBytes}
 use Rattle.layout.specs.Columns.{sum}
 use Rattle.record.specs.declared.Head.{Head}
-use Rattle.record.specs.Record.{cellsBytes, playerBytes, headBytes, recordOf, filled, InStore}
+use Rattle.record.specs.Record.{cellsBytes, playerBytes, recordOf, readBack}
+use Rattle.record.specs.Inner.{headBytes, InStore}
 
 pub length-cells : (ws cells : List ℕ) (stride i : ℕ) → length (cellsBytes ws cells stride i) ≡ sum ws
 unfolding cellsBytes sum
@@ -151,16 +152,16 @@ module _ (h : Head) (ws cells : List ℕ) (stride first : ℕ) where
 
 -- ---- reading a row
 
-pub length-filled : (ws bytes cells : List ℕ) (stride i : ℕ) → length (filled ws bytes cells stride i) ≡ length cells
-unfolding filled
-length-filled [] bytes cells stride i = refl
-length-filled (w ∷ ws) bytes cells stride i = length-filled ws (drop w bytes) (set cells i (number (take w bytes))) stride (i + stride) ∙ length-set cells i (number (take w bytes))
+pub length-read : (ws bytes cells : List ℕ) (stride i : ℕ) → length (readBack ws bytes cells stride i) ≡ length cells
+unfolding readBack
+length-read [] bytes cells stride i = refl
+length-read (w ∷ ws) bytes cells stride i = length-read ws (drop w bytes) (set cells i (number (take w bytes))) stride (i + stride) ∙ length-set cells i (number (take w bytes))
 
 -- a loop over the columns, at column k, which reads at p: one turn, and the end
 module _ (ws : List ℕ) (k w : ℕ) (h : k < length ws) (e : w ≡ getD ws k 0) where
   pub read-step : (s : List ℕ) (p : ℕ) (cells : List ℕ) (stride i v : ℕ) → v ≡ number (part s p w)
-      → filled (drop (k + 1) ws) (drop (p + w) s) (set cells i v) stride (i + stride) ≡ filled (drop k ws) (drop p s) cells stride i
-  unfolding filled part
+      → readBack (drop (k + 1) ws) (drop (p + w) s) (set cells i v) stride (i + stride) ≡ readBack (drop k ws) (drop p s) cells stride i
+  unfolding readBack part
   read-step s p cells stride i v q = rw (drop-cons ws k 0 h, add-one k, ← e, q, ← drop-drop w p s)
 
   pub read-sum : sum (drop k ws) ≡ w + sum (drop (k + 1) ws)
@@ -171,6 +172,6 @@ module _ (ws : List ℕ) (k w : ℕ) (h : k < length ws) (e : w ≡ getD ws k 0)
   unfolding InStore
   read-store len stride i s = rw (add-one k, e) (rw (drop-cons ws k 0 h) at s)
 
-pub read-done : (ws s : List ℕ) (k p : ℕ) (cells : List ℕ) (stride i : ℕ) → length ws ≤ k → (filled (drop k ws) (drop p s) cells stride i ≡ cells) × (sum (drop k ws) ≡ 0)
-unfolding filled sum
+pub read-done : (ws s : List ℕ) (k p : ℕ) (cells : List ℕ) (stride i : ℕ) → length ws ≤ k → (readBack (drop k ws) (drop p s) cells stride i ≡ cells) × (sum (drop k ws) ≡ 0)
+unfolding readBack sum
 read-done ws s k p cells stride i h = rw (drop-of-length-le ws h) (refl, refl)

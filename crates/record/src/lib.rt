@@ -5,7 +5,8 @@ ghost use lib.ListN.{length, drop};
 ghost use Rattle.wire.specs.Wire.{Room, Wrote};
 ghost use Rattle.format.specs.File.{eventBytes};
 ghost use Rattle.layout.specs.Columns.{sum};
-ghost use Rattle.record.specs.Record.{playerBytes, headBytes, recordOf, filled, InStore};
+ghost use Rattle.record.specs.Record.{playerBytes, recordOf, readBack};
+ghost use Rattle.record.specs.Inner.{headBytes, InStore};
 
 // What stands before a record's cells. Pre and Post name their player.
 pub struct Head {
@@ -88,7 +89,7 @@ pub fn get(
 ) -> usize
     requires { ⌜ InStore (now widths) (length (now cells)) stride first × (at + sum (now widths) ≤ length (now payload)) ⌝ }
     ensures { λ r. ⌜ (r ≡ at + sum (now (widths .entry)))
-        × (now (cells .exit) ≡ filled (now (widths .entry)) (drop at (now (payload .entry))) (now (cells .entry)) stride first) ⌝ }
+        × (now (cells .exit) ≡ readBack (now (widths .entry)) (drop at (now (payload .entry))) (now (cells .entry)) stride first) ⌝ }
 {
     let mut p = at;
     let mut i = first;

@@ -1,11 +1,11 @@
 // The reader as a value: the lent replay beside a place in it. The borrow checker covers no function over a struct that holds a
 // reference, so these calls are few and thin, and each is proved by hand. The work is `de::step_at`, which is covered.
 ghost use mathlib.Core.Path.{_≡_};
-ghost use Prim.Native.Nat.{_<_};
-ghost use Rattle.de.specs.Table.{entriesOf, firstOf};
-ghost use Rattle.de.specs.Step.{stepOf};
+ghost use Rattle.head.specs.Table.{tableOf, firstPlace};
+ghost use Rattle.head.specs.Step.{stepOf};
+ghost use Rattle.head.specs.Numbers.{stepNumbers};
 ghost use Rattle.replay.specs.Value.{heldAt};
-use de::Step;
+use head::Step;
 
 pub struct Replay<'a> {
     pub bytes: &'a [u8],
@@ -28,7 +28,7 @@ impl<'a> Replay<'a> {
 
     // What stands at its place.
     pub fn next_event(self) -> Step
-        ensures { λ s. ⌜ s ≡ stepOf (now (self .entry .bytes)) (self .entry .at) ⌝ }
+        ensures { λ s. ⌜ stepNumbers s ≡ stepNumbers (stepOf (now (self .entry .bytes)) (self .entry .at)) ⌝ }
     {
         de::step_at(self.bytes, self.at)
     }
@@ -44,25 +44,23 @@ impl<'a> Replay<'a> {
     }
 }
 
-fn wide(x: u8) -> usize
-    ensures { λ r. ⌜ (r ≡ x) × (r < 256) ⌝ }
-{
-    x as usize
-}
-
-// Where the events of a file start: after its table, three bytes an entry.
+// Where the events of a file start.
 pub fn first_place(file: &[u8]) -> usize
-    ensures { λ n. ⌜ n ≡ firstOf (entriesOf (now (file .entry))) ⌝ }
+    ensures { λ n. ⌜ n ≡ firstPlace (tableOf (now (file .entry))) ⌝ }
 {
-    if file.len() < 17 {
-        return 17;
-    }
-    17 + 3 * (wide(file[16]) / 3)
+    head::table::first_place(file)
 }
 
 // What stands at a place, for a caller with a plain slice, whose own proof then needs no walk by hand.
 pub fn event_from(file: &[u8], place: usize) -> Step
-    ensures { λ s. ⌜ s ≡ stepOf (now (file .entry)) place ⌝ }
+    ensures { λ s. ⌜ stepNumbers s ≡ stepNumbers (stepOf (now (file .entry)) place) ⌝ }
 {
     Replay::new(file, place).next_event()
+}
+
+// What stands at a place that a value was moved to, for such a caller.
+pub fn event_moved(file: &[u8], from: usize, to: usize) -> Step
+    ensures { λ s. ⌜ stepNumbers s ≡ stepNumbers (stepOf (now (file .entry)) to) ⌝ }
+{
+    Replay::new(file, from).moved(to).next_event()
 }

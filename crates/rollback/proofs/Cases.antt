@@ -9,7 +9,8 @@ use lib.IntN.{ℤ, pos, negsuc, _+ℤ_}
 use lib.ListN.{replicate, length-replicate}
 use Rattle.wire.specs.Wire.{tabulate}
 use Rattle.format.specs.FrameId.{placeOf}
-use Rattle.rollback.specs.Mask.{occurs, maskOf, needed, marksOf, allInRange, answerOf, numberOf, Outcome}
+use Rattle.format.specs.Refusal.{lowest}
+use Rattle.rollback.specs.Mask.{occurs, maskOf, needed, scratchOf, allInRange, answerOf, maskNumbers, RollbackOutcome}
 use Rattle.rollback.specs.declared.frame.Rollbacks.the-variants.{ExceptFirst, ExceptLast}
 use Rattle.rollback.specs.declared.frame.Masked.the-variants.{Written, Refused}
 use Rattle.rollback.proofs.Places.{pos-place, neg-place}
@@ -20,12 +21,12 @@ ids : List ℕ
 ids = 0xffff_ff85 ∷ 0xffff_ff86 ∷ 0xffff_ff86 ∷ 0xffff_ff87 ∷ []
 
 -- case 10, with the scratch, and with a byte beyond the mask and one beyond the scratch, which stay
-case-10-first : Outcome ids ExceptFirst (9 ∷ 9 ∷ 9 ∷ 9 ∷ 9 ∷ []) (9 ∷ 9 ∷ 9 ∷ 9 ∷ []) (Written 4) (0 ∷ 0 ∷ 1 ∷ 0 ∷ 9 ∷ []) (1 ∷ 1 ∷ 1 ∷ 9 ∷ [])
-unfolding ids tabulate placeOf occurs maskOf needed marksOf allInRange answerOf
+case-10-first : RollbackOutcome ids ExceptFirst (9 ∷ 9 ∷ 9 ∷ 9 ∷ 9 ∷ []) (9 ∷ 9 ∷ 9 ∷ 9 ∷ []) (Written 4) (0 ∷ 0 ∷ 1 ∷ 0 ∷ 9 ∷ []) (1 ∷ 1 ∷ 1 ∷ 9 ∷ [])
+unfolding ids tabulate placeOf occurs maskOf needed scratchOf allInRange lowest answerOf
 case-10-first = record { answer-is = refl; mask-is = refl; scratch-is = refl }
 
-case-10-last : Outcome ids ExceptLast (9 ∷ 9 ∷ 9 ∷ 9 ∷ 9 ∷ []) (9 ∷ 9 ∷ 9 ∷ 9 ∷ []) (Written 4) (0 ∷ 1 ∷ 0 ∷ 0 ∷ 9 ∷ []) (1 ∷ 1 ∷ 1 ∷ 9 ∷ [])
-unfolding ids tabulate placeOf occurs maskOf needed marksOf allInRange answerOf
+case-10-last : RollbackOutcome ids ExceptLast (9 ∷ 9 ∷ 9 ∷ 9 ∷ 9 ∷ []) (9 ∷ 9 ∷ 9 ∷ 9 ∷ []) (Written 4) (0 ∷ 1 ∷ 0 ∷ 0 ∷ 9 ∷ []) (1 ∷ 1 ∷ 1 ∷ 9 ∷ [])
+unfolding ids tabulate placeOf occurs maskOf needed scratchOf allInRange lowest answerOf
 case-10-last = record { answer-is = refl; mask-is = refl; scratch-is = refl }
 
 -- ---- the refusals, in their order
@@ -67,15 +68,15 @@ table =
     ∷ row [] 0 0 0
     ∷ []
 
-order : map (λ (r : Row). numberOf (answerOf (r .cells) (r .m) (r .s))) table ≡ map (λ (r : Row). r .number) table
-unfolding row low first last high table placeOf needed allInRange answerOf
+order : map (λ (r : Row). maskNumbers (answerOf (r .cells) (r .m) (r .s)) .number) table ≡ map (λ (r : Row). r .number) table
+unfolding row low first last high table placeOf needed allInRange lowest answerOf
 order = refl
 
 -- more than 1,048,576 frames are judged before the mask, and no fewer are too many
-too-many-frames : (n : ℕ) → 1048576 < n → Outcome (replicate n low) ExceptFirst [] [] (Refused 2) [] []
+too-many-frames : (n : ℕ) → 1048576 < n → RollbackOutcome (replicate n low) ExceptFirst [] [] (Refused 2) [] []
 too-many-frames n h = too-many (omega (arith, length-replicate n low))
 
-few-frames : (n : ℕ) → 0 < n → n ≤ 1048576 → Outcome (replicate n low) ExceptFirst [] [] (Refused 12) [] []
+few-frames : (n : ℕ) → 0 < n → n ≤ 1048576 → RollbackOutcome (replicate n low) ExceptFirst [] [] (Refused 12) [] []
 few-frames n h l = mask-short (omega (arith, length-replicate n low)) (omega (arith, length-replicate n low))
 
 -- ---- the scratch

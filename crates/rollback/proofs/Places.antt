@@ -94,14 +94,14 @@ all-in-place (b ∷ bs) = both (in-place (toZ w32 b)) (all-in-place bs) ∙ sym 
 -- ---- cells whose ids are in range
 
 -- each cell is a 32-bit number whose id has a place; past the end stands the id 0, which has one
-abbrev pub Placed : List ℕ → Type 0
-Placed ids = (j : ℕ) → Fits w32 (getD ids j 0) × (place (getD ids j 0) < 1048576)
+abbrev pub InPlace : List ℕ → Type 0
+InPlace ids = (j : ℕ) → Fits w32 (getD ids j 0) × (place (getD ids j 0) < 1048576)
 
 zero-place : place 0 < 1048576
 unfolding placeOf
 zero-place = lit< tt
 
-pub placed : (ids : List ℕ) → ((j : ℕ) → Fits w32 (getD ids j 0)) → needed ids ≤ 1048576 → Placed ids
+pub placed : (ids : List ℕ) → ((j : ℕ) → Fits w32 (getD ids j 0)) → needed ids ≤ 1048576 → InPlace ids
 placed ids f h j = (
   f j,
   elim (decLt j (length ids)) [
@@ -110,14 +110,14 @@ placed ids f h j = (
   ],
 )
 
-pub placed-take : (n : ℕ) (ids : List ℕ) → Placed ids → Placed (take n ids)
+pub placed-take : (n : ℕ) (ids : List ℕ) → InPlace ids → InPlace (take n ids)
 placed-take n ids h j =
     elim (decLt j n) [
       | yes l ↦ rw (getD-take n ids j 0 l) (h j)
       | no r ↦ rw (List·getD-eq-default (take n ids) 0 {n = j} (omega (arith, length-take n ids))) (record { fits = lit< tt }, zero-place)
     ]
 
-pub placed-drop : (n : ℕ) (ids : List ℕ) → Placed ids → Placed (drop n ids)
+pub placed-drop : (n : ℕ) (ids : List ℕ) → InPlace ids → InPlace (drop n ids)
 placed-drop n ids h j = rw (getD-drop n ids j 0) (h (n + j))
 
 same-place : (b c : ℕ) → Fits w32 b × (place b < 1048576) → Fits w32 c × (place c < 1048576) → eqb (place b) (place c) ≡ eqb b c
@@ -128,7 +128,7 @@ same-place b c h g =
     ]
 
 -- so what occurs among the places is what occurs among the ids
-pub occurs-place : (b : ℕ) (ids : List ℕ) → Fits w32 b × (place b < 1048576) → Placed ids → occurs (place b) (map place ids) ≡ occurs b ids
+pub occurs-place : (b : ℕ) (ids : List ℕ) → Fits w32 b × (place b < 1048576) → InPlace ids → occurs (place b) (map place ids) ≡ occurs b ids
 unfolding occurs
 occurs-place b [] h g = refl
 occurs-place b (c ∷ cs) h g = rw (same-place b c h (g 0), occurs-place b cs h (λ j. g (suc j)))

@@ -13,11 +13,11 @@ use lib.Dec.{eqb}
 use lib.ListN.{length, getD, set, take, drop, replicate, length-set}
 use lib.Seq.{take-suc, drop-cons, take-all, drop-length}
 use Rattle.wire.proofs.Laws.{tabulated, stored}
-use Rattle.rollback.specs.Mask.{occurs, flag, others, repeats, maskOf, place, needed, marksOf}
-use Rattle.rollback.specs.Turn.{turnOf}
+use Rattle.rollback.specs.Mask.{occurs, asByte, others, repeats, maskOf, place, needed, scratchOf}
+use Rattle.rollback.specs.Inner.{turnOf}
 use Rattle.rollback.specs.declared.frame.Rollbacks.{Rollbacks}
 use Rattle.rollback.specs.declared.frame.Rollbacks.the-variants.{ExceptFirst, ExceptLast}
-use Rattle.rollback.proofs.Places.{Placed, placed-take, placed-drop, below-needed, occurs-place}
+use Rattle.rollback.proofs.Places.{InPlace, placed-take, placed-drop, below-needed, occurs-place}
 use Rattle.rollback.proofs.Marks.{occurs-cons, occurs-snoc, marks-length, marks-at, marks-none, marked}
 
 -- ---- the two orders
@@ -63,7 +63,7 @@ passed-more ExceptLast ids k h t =
     let e : length ids - k ≡ suc i = omega arith in
     rw (drop-cons ids i 0 (omega arith), e) (occurs-cons t (place (getD ids i 0)) (map place (drop (suc i) ids)))
 
-placed-others : (keep : Rollbacks) (ids : List ℕ) (i : ℕ) → Placed ids → Placed (others keep ids i)
+placed-others : (keep : Rollbacks) (ids : List ℕ) (i : ℕ) → InPlace ids → InPlace (others keep ids i)
 placed-others ExceptFirst ids i h = placed-take i ids h
 placed-others ExceptLast ids i h = placed-drop (suc i) ids h
 
@@ -73,7 +73,7 @@ placed-others ExceptLast ids i h = placed-drop (suc i) ids h
 pub record Swept (keep : Rollbacks) (ids mask marks : List ℕ) (k : ℕ) : Type 0 where
   pub long : length mask ≡ length ids
   pub done : (j : ℕ) → j < k → let i = turnOf keep (length ids) j in getD mask i 0 ≡ repeats keep ids i
-  pub marks-are : marks ≡ marksOf (passed keep ids k) (needed ids)
+  pub marks-are : marks ≡ scratchOf (passed keep ids k) (needed ids)
 
 pub swept-length : {keep : Rollbacks} {ids mask marks : List ℕ} {k : ℕ} → Swept keep ids mask marks k → length marks ≡ needed ids
 swept-length {keep} {ids} {k = k} v = ap length (v .marks-are) ∙ marks-length (passed keep ids k) (needed ids)
@@ -86,7 +86,7 @@ module _ {keep : Rollbacks} {ids mask marks : List ℕ} where
     marks-are = rw passed-none (m ∙ marks-none (needed ids));
   }
 
-  pub swept-all : {k : ℕ} → length ids ≤ k → Swept keep ids mask marks k → (mask ≡ maskOf keep ids) × (marks ≡ marksOf ids (needed ids))
+  pub swept-all : {k : ℕ} → length ids ≤ k → Swept keep ids mask marks k → (mask ≡ maskOf keep ids) × (marks ≡ scratchOf ids (needed ids))
   unfolding maskOf
   swept-all {k} l v = (
     tabulated 0 mask (length ids) (repeats keep ids) (v .long)
@@ -109,14 +109,14 @@ module _
     place-below = rw (swept-length v) needed-above
 
     -- the mark that is read
-    read : Placed ids → getD marks p 0 ≡ repeats keep ids i
+    read : InPlace ids → getD marks p 0 ≡ repeats keep ids i
     read ok =
         let q : passed keep ids k ≡ others keep ids i = passed-others keep ids k more ∙ ap (others keep ids) (sym turn) in
         rw (v .marks-are, q)
         (marks-at (others keep ids i) (needed ids) p needed-above
-        ∙ rw here (ap flag (occurs-place (getD ids i 0) (others keep ids i) (ok i) (placed-others keep ids i ok))))
+        ∙ rw here (ap asByte (occurs-place (getD ids i 0) (others keep ids i) (ok i) (placed-others keep ids i ok))))
 
-    pub swept-more : Placed ids → Swept keep ids (set mask i (getD marks p 0)) (set marks p 1) (k + 1)
+    pub swept-more : InPlace ids → Swept keep ids (set mask i (getD marks p 0)) (set marks p 1) (k + 1)
     swept-more ok = record {
       long = length-set mask i (getD marks p 0) ∙ v .long;
       done = λ j l.

@@ -1,2 +1,2 @@
 pub mod Mask
-pub mod Turn
+pub mod Inner

@@ -2,25 +2,14 @@
 ghost use mathlib.Core.Path.{_≡_};
 ghost use Prim.Native.Nat.{_≤_, _<_};
 ghost use lib.ListN.{length, replicate};
-ghost use Rattle.rollback.specs.Mask.{place, needed, maskOf, marksOf, Outcome};
-ghost use Rattle.rollback.specs.Turn.{turnOf};
+ghost use Rattle.rollback.specs.Mask.{place, needed, maskOf, scratchOf, RollbackOutcome};
+ghost use Rattle.rollback.specs.Inner.{turnOf};
 use format::frame_id::FrameId;
+use format::refusal;
 use frame::Masked;
 use frame::Rollbacks;
 
 pub mod frame;
-
-// A mask takes no more frames than this.
-pub const MAX_FRAMES: usize = 1_048_576;
-
-// The refusals' numbers, in the order in which they are judged.
-const TOO_MANY_FRAMES: u8 = 2;
-
-const SHORT_MASK: u8 = 12;
-
-const ID_OUT_OF_RANGE: u8 = 13;
-
-const SHORT_SCRATCH: u8 = 12;
 
 // How far the id of a cell stands from the first; FrameId::COUNT for an id out of range.
 fn place_of(cell: u32) -> usize
@@ -70,7 +59,8 @@ fn turn(keep: Rollbacks, frames: usize, k: usize) -> usize
 // The mask of ids that are all in range: a frame repeats where its id is marked when its turn comes.
 fn sweep(ids: &[u32], keep: Rollbacks, mask: &mut [u8], marks: &mut [u8])
     requires { ⌜ (length (now mask) ≡ length (now ids)) × (length (now marks) ≡ needed (now ids)) × (needed (now ids) ≤ 1048576) ⌝ }
-    ensures { λ _. ⌜ (now (mask .exit) ≡ maskOf keep (now (ids .entry))) × (now (marks .exit) ≡ marksOf (now (ids .entry)) (needed (now (ids .entry)))) ⌝ }
+    ensures { λ _. ⌜ (now (mask .exit) ≡ maskOf keep (now (ids .entry)))
+        × (now (marks .exit) ≡ scratchOf (now (ids .entry)) (needed (now (ids .entry)))) ⌝ }
 {
     clear(marks);
     let frames = ids.len();
@@ -87,21 +77,23 @@ fn sweep(ids: &[u32], keep: Rollbacks, mask: &mut [u8], marks: &mut [u8])
 // Frame ids may appear several times due to rollbacks. The mask gets one byte a frame: 0 at an id's first (or last) occurrence, else 1.
 // The scratch gets 1 at each place whose id occurs, else 0. Bytes beyond both stay, and a refused call changes none.
 pub fn rollbacks(ids: &[u32], keep: Rollbacks, mask: &mut [u8], scratch: &mut [u8]) -> Masked
-    ensures { λ r. ⌜ Outcome (now (ids .entry)) keep (now (mask .entry)) (now (scratch .entry)) r (now (mask .exit)) (now (scratch .exit)) ⌝ }
+    ensures { λ r. ⌜ RollbackOutcome (now (ids .entry)) keep (now (mask .entry)) (now (scratch .entry))
+        r (now (mask .exit)) (now (scratch .exit)) ⌝ }
 {
     let frames = ids.len();
-    if MAX_FRAMES < frames {
-        return Masked::Refused(TOO_MANY_FRAMES);
+    // a mask takes as many frames as there are ids
+    if FrameId::COUNT < frames {
+        return Masked::Refused(refusal::TOO_MANY);
     }
     if mask.len() < frames {
-        return Masked::Refused(SHORT_MASK);
+        return Masked::Refused(refusal::SHORT_OUTPUT);
     }
     let need = scratch_len(ids);
     if FrameId::COUNT < need {
-        return Masked::Refused(ID_OUT_OF_RANGE);
+        return Masked::Refused(refusal::OUT_OF_RANGE);
     }
     if scratch.len() < need {
-        return Masked::Refused(SHORT_SCRATCH);
+        return Masked::Refused(refusal::SHORT_OUTPUT);
     }
     sweep(ids, keep, &mut mask[..frames], &mut scratch[..need]);
     Masked::Written(frames)

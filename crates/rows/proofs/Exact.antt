@@ -1,6 +1,6 @@
 -- The bits of each float of a Pre, Post, Item and FodPlatform row are its record's cell, for each cell that is no NaN's pattern.
 -- Assumes nothing.
-use mathlib.Core.Path.{_≡_}
+use mathlib.Core.Path.{_≡_, ap, _∙_}
 use mathlib.Core.Bool.{false}
 use mathlib.Core.List.{List, [], _∷_, map}
 use Prim.Native.Nat.{ℕ, _<_}
@@ -23,42 +23,55 @@ Exact [] (n ∷ ns) = ⊥
 Exact (x ∷ xs) [] = ⊥
 
 -- the floats of a row, in column order
-abbrev preFloats : Pre → List Float
+abbrev pub preFloats : Pre → List Float
 preFloats r =
     r .position .x ∷ r .position .y ∷ r .direction ∷ r .joystick .x ∷ r .joystick .y ∷ r .cstick .x ∷ r .cstick .y ∷ r .triggers
     ∷ r .«triggers_physical» .l ∷ r .«triggers_physical» .r ∷ r .percent ∷ []
 
-abbrev postFloats : Post → List Float
+abbrev pub postFloats : Post → List Float
 postFloats r =
     r .position .x ∷ r .position .y ∷ r .direction ∷ r .percent ∷ r .shield ∷ r .«state_age» ∷ r .«misc_as»
     ∷ r .velocities .«self_x_air» ∷ r .velocities .«self_y» ∷ r .velocities .«knockback_x» ∷ r .velocities .«knockback_y» ∷ r .velocities .«self_x_ground»
     ∷ r .hitlag ∷ []
 
-abbrev itemFloats : Item → List Float
+abbrev pub itemFloats : Item → List Float
 itemFloats r = r .direction ∷ r .velocity .x ∷ r .velocity .y ∷ r .position .x ∷ r .position .y ∷ r .timer ∷ []
 
-abbrev fodPlatformFloats : FodPlatform → List Float
+abbrev pub fodPlatformFloats : FodPlatform → List Float
 fodPlatformFloats r = r .height ∷ []
 
--- the cells of these columns
-abbrev at : List ℕ → List ℕ → List ℕ
-at raw ks = map (λ (k : ℕ). getD raw k 0) ks
+-- the columns of these
+abbrev pub preColumns : List ℕ
+preColumns = 2 ∷ 3 ∷ 4 ∷ 5 ∷ 6 ∷ 7 ∷ 8 ∷ 9 ∷ 12 ∷ 13 ∷ 15 ∷ []
 
-module _ (raw : List ℕ) (fits : (k : ℕ) → getD raw k 0 < 0x1_0000_0000) where
-  each : (ks : List ℕ) → Exact (map (λ (k : ℕ). float (getD raw k 0)) ks) (at raw ks)
+abbrev pub postColumns : List ℕ
+postColumns = 2 ∷ 3 ∷ 4 ∷ 5 ∷ 6 ∷ 11 ∷ 17 ∷ 23 ∷ 24 ∷ 25 ∷ 26 ∷ 27 ∷ 28 ∷ []
+
+abbrev pub itemColumns : List ℕ
+itemColumns = 2 ∷ 3 ∷ 4 ∷ 5 ∷ 6 ∷ 8 ∷ []
+
+abbrev pub fodPlatformColumns : List ℕ
+fodPlatformColumns = 1 ∷ []
+
+-- a record whose k-th cell is cell k
+module _ (raw : List ℕ) (cell : ℕ → ℕ) (is : (k : ℕ) → getD raw k 0 ≡ cell k) (fits : (k : ℕ) → cell k < 0x1_0000_0000) where
+  one : (k : ℕ) → nanBits binary32 (cell k) ≡ false → toBits binary32 (float (getD raw k 0)) ≡ cell k
+  one k e = ap (λ (n : ℕ). toBits binary32 (float n)) (is k) ∙ bits-back (cell k) (fits k) e
+
+  each : (ks : List ℕ) → Exact (map (λ (k : ℕ). float (getD raw k 0)) ks) (map cell ks)
   unfolding Exact
   each [] = tt
-  each (k ∷ ks) = (bits-back (getD raw k 0) (fits k), each ks)
+  each (k ∷ ks) = (one k, each ks)
 
   module _ (v : Version) where
-    pub pre-exact : Exact (preFloats (preOf raw v)) (at raw (2 ∷ 3 ∷ 4 ∷ 5 ∷ 6 ∷ 7 ∷ 8 ∷ 9 ∷ 12 ∷ 13 ∷ 15 ∷ []))
-    pre-exact = each (2 ∷ 3 ∷ 4 ∷ 5 ∷ 6 ∷ 7 ∷ 8 ∷ 9 ∷ 12 ∷ 13 ∷ 15 ∷ [])
+    pub pre-exact : Exact (preFloats (preOf raw v)) (map cell preColumns)
+    pre-exact = each preColumns
 
-    pub post-exact : Exact (postFloats (postOf raw v)) (at raw (2 ∷ 3 ∷ 4 ∷ 5 ∷ 6 ∷ 11 ∷ 17 ∷ 23 ∷ 24 ∷ 25 ∷ 26 ∷ 27 ∷ 28 ∷ []))
-    post-exact = each (2 ∷ 3 ∷ 4 ∷ 5 ∷ 6 ∷ 11 ∷ 17 ∷ 23 ∷ 24 ∷ 25 ∷ 26 ∷ 27 ∷ 28 ∷ [])
+    pub post-exact : Exact (postFloats (postOf raw v)) (map cell postColumns)
+    post-exact = each postColumns
 
-    pub item-exact : Exact (itemFloats (itemOf raw v)) (at raw (2 ∷ 3 ∷ 4 ∷ 5 ∷ 6 ∷ 8 ∷ []))
-    item-exact = each (2 ∷ 3 ∷ 4 ∷ 5 ∷ 6 ∷ 8 ∷ [])
+    pub item-exact : Exact (itemFloats (itemOf raw v)) (map cell itemColumns)
+    item-exact = each itemColumns
 
-    pub fod-platform-exact : Exact (fodPlatformFloats (fodPlatformOf raw v)) (at raw (1 ∷ []))
-    fod-platform-exact = each (1 ∷ [])
+    pub fod-platform-exact : Exact (fodPlatformFloats (fodPlatformOf raw v)) (map cell fodPlatformColumns)
+    fod-platform-exact = each fodPlatformColumns

@@ -24,7 +24,8 @@ use Rattle.layout.specs.declared.columns.Column.{Column}
 use Rattle.layout.specs.declared.columns.Family.{Family}
 use Rattle.layout.proofs.Laws.{few-widths}
 use Rattle.layout.proofs.Prefix.{prefix-of}
-use Rattle.rows.specs.Cells.{firstCells, widthAt, Within}
+use Rattle.rows.specs.Cells.{firstCells}
+use Rattle.rows.specs.Inner.{widthAt, Within}
 
 -- a field that holds a signed number has its bits, of which the number is read back: of one byte, and of a whole cell
 pub byte-field : {z : ℤ} (raw : List ℕ) (k : ℕ) → SFits w8 z → z ≡ toZ w8 (getD raw k 0 % 256) → getD raw k 0 < 256 → toZ w8 (ofZ w8 z) ≡ toZ w8 (getD raw k 0)
@@ -52,6 +53,10 @@ block-below block columns rows row size h e =
     let one : (block + 1) * columns * 1 ≤ (block + 1) * columns * rows = mul-le-mul (le-refl ((block + 1) * columns)) (omega arith) in
     omega arith
 
+-- a store that has the block of so many columns has it for an equal number
+pub counted-reach : (n m block rows size : ℕ) → n ≡ m → (block + 1) * m * rows ≤ size → (block + 1) * n * rows ≤ size
+counted-reach n m block rows size e h = rw e h
+
 module _ (cell : ℕ → ℕ) where
   abbrev at : ℕ → ℕ → ℕ
   at n k = cond (ltb k n) (cell k) 0
@@ -78,6 +83,14 @@ module _ (cell : ℕ → ℕ) where
       elim (decLt k 32) [
         | yes l ↦ first-at n k l ∙ at-out n k h
         | no far ↦ List·getD-eq-default (firstCells cell n) 0 {n = k} (omega (arith, first-length n))
+      ]
+
+  -- so each cell of a record, in whatever column
+  pub first-each : (n : ℕ) → n ≤ 32 → (k : ℕ) → getD (firstCells cell n) k 0 ≡ at n k
+  first-each n l k =
+      elim (decLt k 32) [
+        | yes h ↦ first-at n k h
+        | no far ↦ first-out n k (omega arith) ∙ sym (at-out n k (omega arith))
       ]
 
   -- no cell yet, and one more

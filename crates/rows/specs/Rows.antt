@@ -11,8 +11,8 @@ use Rattle.rows.specs.Parts.{float, positionOf, velocityOf, triggersOf, 
 use Rattle.rows.specs.declared.pre.Pre.{Pre}
 use Rattle.rows.specs.declared.post.Post.{Post}
 use Rattle.rows.specs.declared.item.Item.{Item}
-use Rattle.rows.specs.declared.small.Start.{Start}
-use Rattle.rows.specs.declared.small.End.{End}
+use Rattle.rows.specs.declared.small.FrameStart.{FrameStart}
+use Rattle.rows.specs.declared.small.FrameEnd.{FrameEnd}
 use Rattle.rows.specs.declared.small.FodPlatform.{FodPlatform}
 use Rattle.rows.specs.declared.small.DreamlandWhispy.{DreamlandWhispy}
 use Rattle.rows.specs.declared.small.StadiumTransformation.{StadiumTransformation}
@@ -84,11 +84,11 @@ itemOf raw v = record {
   «instance_id» = getD raw 15 0;
 }
 
-abbrev pub startOf : List ℕ → Version → Start
-startOf raw v = record { version = v; bits = raw; «random_seed» = getD raw 0 0; «scene_frame_counter» = getD raw 1 0 }
+abbrev pub frameStartOf : List ℕ → Version → FrameStart
+frameStartOf raw v = record { version = v; bits = raw; «random_seed» = getD raw 0 0; «scene_frame_counter» = getD raw 1 0 }
 
-abbrev pub endOf : List ℕ → Version → End
-endOf raw v = record { version = v; bits = raw; «latest_finalized_frame» = toZ w32 (getD raw 0 0) }
+abbrev pub frameEndOf : List ℕ → Version → FrameEnd
+frameEndOf raw v = record { version = v; bits = raw; «latest_finalized_frame» = toZ w32 (getD raw 0 0) }
 
 abbrev pub fodPlatformOf : List ℕ → Version → FodPlatform
 fodPlatformOf raw v = record { version = v; bits = raw; platform = getD raw 0 0; height = float (getD raw 1 0) }
@@ -116,11 +116,11 @@ noPost = postOf noCells noVersion
 abbrev pub noItem : Item
 noItem = itemOf noCells noVersion
 
-abbrev pub noStart : Start
-noStart = startOf noCells noVersion
+abbrev pub noFrameStart : FrameStart
+noFrameStart = frameStartOf noCells noVersion
 
-abbrev pub noEnd : End
-noEnd = endOf noCells noVersion
+abbrev pub noFrameEnd : FrameEnd
+noFrameEnd = frameEndOf noCells noVersion
 
 abbrev pub noFodPlatform : FodPlatform
 noFodPlatform = fodPlatformOf noCells noVersion

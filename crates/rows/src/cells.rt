@@ -2,12 +2,16 @@
 ghost use mathlib.Core.Path.{_≡_};
 ghost use Prim.Native.Nat.{_+_, _*_, _≤_, _<_};
 ghost use lib.ListN.{length};
-ghost use Rattle.rows.specs.Cells.{recordOf};
+ghost use Rattle.layout.specs.Columns.{widthsOf};
+ghost use Rattle.rows.specs.Cells.{blockCells, rowCells};
+use format::version::Version;
+use layout::columns::Family;
+use layout::listing::widths;
 
 // The cells of a row of a block, in column order: 0 from the last column on. A block has its columns one after another, row after row.
-pub fn cells_of(cells: &[u32], rows: usize, columns: usize, block: usize, row: usize) -> [u32; 32]
+fn block_cells(cells: &[u32], rows: usize, columns: usize, block: usize, row: usize) -> [u32; 32]
     requires { ⌜ (columns ≤ 32) × (row < rows) × ((block + 1) * columns * rows ≤ length (now cells)) ⌝ }
-    ensures { λ r. ⌜ r ≡ recordOf (now (cells .entry)) rows columns block row ⌝ }
+    ensures { λ r. ⌜ r ≡ blockCells (now (cells .entry)) rows columns block row ⌝ }
 {
     let mut raw = [0u32; 32];
     let first = block * columns;
@@ -17,4 +21,20 @@ pub fn cells_of(cells: &[u32], rows: usize, columns: usize, block: usize, row: u
         k += 1;
     }
     raw
+}
+
+// A record's cells: the table lists the version's columns, and each has its cell.
+pub fn row_cells(
+    family: Family,
+    version: Version,
+    cells: &[u32],
+    rows: usize,
+    block: usize,
+    row: usize,
+) -> [u32; 32]
+    requires { ⌜ (row < rows) × ((block + 1) * length (widthsOf family version) * rows ≤ length (now cells)) ⌝ }
+    ensures { λ r. ⌜ r ≡ rowCells family version (now (cells .entry)) rows block row ⌝ }
+{
+    let listing = widths(family, version);
+    block_cells(cells, rows, listing.count, block, row)
 }

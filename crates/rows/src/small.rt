@@ -1,14 +1,15 @@
 // The rows of the records with one or two columns: a frame's start and end, and what a stage does.
 ghost use mathlib.Core.Path.{_≡_};
 ghost use Rattle.layout.specs.declared.columns.Family.the-variants as family;
-ghost use Rattle.rows.specs.Cells.{Within};
-ghost use Rattle.rows.specs.Rows.{startOf, endOf, fodPlatformOf, dreamlandWhispyOf, stadiumTransformationOf, noStart, noEnd, noFodPlatform, noDreamlandWhispy, noStadiumTransformation};
+ghost use Rattle.rows.specs.Inner.{Within};
+ghost use Rattle.rows.specs.Rows.{frameStartOf, frameEndOf, fodPlatformOf, dreamlandWhispyOf, stadiumTransformationOf};
+ghost use Rattle.rows.specs.Rows.{noFrameStart, noFrameEnd, noFodPlatform, noDreamlandWhispy, noStadiumTransformation};
 use super::float::float_of;
 use format::signed::signed32;
 use format::version::Version;
 
 #[repr(C)]
-pub struct Start {
+pub struct FrameStart {
     pub version: Version,
     pub bits: [u32; 32],
     pub random_seed: u32,
@@ -16,7 +17,7 @@ pub struct Start {
 }
 
 #[repr(C)]
-pub struct End {
+pub struct FrameEnd {
     pub version: Version,
     pub bits: [u32; 32],
     pub latest_finalized_frame: i32,
@@ -45,10 +46,10 @@ pub struct StadiumTransformation {
     pub type_id: u16,
 }
 
-pub fn start_of(raw: [u32; 32], version: Version) -> Start
-    ensures { λ r. ⌜ r ≡ startOf raw version ⌝ }
+pub fn frame_start_of(raw: [u32; 32], version: Version) -> FrameStart
+    ensures { λ r. ⌜ r ≡ frameStartOf raw version ⌝ }
 {
-    Start {
+    FrameStart {
         version,
         bits: raw,
         random_seed: raw[0],
@@ -56,10 +57,10 @@ pub fn start_of(raw: [u32; 32], version: Version) -> Start
     }
 }
 
-pub fn end_of(raw: [u32; 32], version: Version) -> End
-    ensures { λ r. ⌜ r ≡ endOf raw version ⌝ }
+pub fn frame_end_of(raw: [u32; 32], version: Version) -> FrameEnd
+    ensures { λ r. ⌜ r ≡ frameEndOf raw version ⌝ }
 {
-    End {
+    FrameEnd {
         version,
         bits: raw,
         latest_finalized_frame: signed32(raw[0]),
@@ -102,17 +103,17 @@ pub fn stadium_transformation_of(raw: [u32; 32], version: Version) -> StadiumTra
 }
 
 // The row that stands for none: all zero.
-pub fn no_start() -> Start
-    ensures { λ r. ⌜ r ≡ noStart ⌝ }
+pub fn no_frame_start() -> FrameStart
+    ensures { λ r. ⌜ r ≡ noFrameStart ⌝ }
 {
-    start_of([0; 32], Version::new(0, 0, 0))
+    frame_start_of([0; 32], Version::new(0, 0, 0))
 }
 
 // The row that stands for none: all zero.
-pub fn no_end() -> End
-    ensures { λ r. ⌜ r ≡ noEnd ⌝ }
+pub fn no_frame_end() -> FrameEnd
+    ensures { λ r. ⌜ r ≡ noFrameEnd ⌝ }
 {
-    end_of([0; 32], Version::new(0, 0, 0))
+    frame_end_of([0; 32], Version::new(0, 0, 0))
 }
 
 // The row that stands for none: all zero.

@@ -4,8 +4,8 @@
 --   the cut, in order and unaltered, and the exact number of stray event bytes. It calls the event data whole exactly when all of it is
 --   there. A cut before the table is whole is refused by name.
 --
--- `Passed g s` says that refusals 1 to 11 do not apply to the game g with the stores s, as they do not where `write` answers a file
--- (`not-refused` of Outcomes.antt); `file g s` is what it then writes.
+-- `Passed g s` says that refusals 1 to 10 do not apply to the game g with the stores s, and the maxima of codes and metadata (11 does not matter here);
+-- `file g s` is the file that the definition gives it. Answered.antt states all this of what `write` answered and left.
 -- Assumes nothing.
 use mathlib.Core.Path.{_≡_}
 use mathlib.Core.Bool.{true}
@@ -15,16 +15,17 @@ use lib.Dec.{leb}
 use lib.ListN.{length, take}
 use Rattle.format.specs.File.{Ev, tableBytes, eventsBytes}
 use Rattle.format.specs.Mark.{yes}
-use Rattle.codes.specs.Tail.{tailOf}
-use Rattle.de.specs.Table.{firstOf}
-use Rattle.de.specs.Step.{stepOf}
+use Rattle.ending.specs.Tail.{tailOf}
+use Rattle.head.specs.Table.{firstPlace}
+use Rattle.head.specs.Step.{stepOf}
 use Rattle.de.specs.Walk.{walkOf}
 use Rattle.de.specs.Cut.{wholly, eventsRead}
-use Rattle.de.specs.declared.Step.the-variants as step
+use Rattle.head.specs.declared.Step.the-variants as step
 use Rattle.de.specs.declared.Walked.the-variants as walked
 use Rattle.de.proofs.EveryCut as any
-use Rattle.ser.specs.declared.game.Game.{Game}
-use Rattle.ser.specs.Write.{Stores, entries, events, file}
+use Rattle.game.specs.declared.Game.{Game}
+use Rattle.game.specs.Stores.{Stores}
+use Rattle.ser.specs.Write.{entries, events, file}
 use Rattle.ser.proofs.Outcomes.{Passed}
 use Rattle.ser.proofs.Sound.{fresh, all-listed, length-fits}
 
@@ -37,7 +38,7 @@ module _ {g : Game} {s : Stores} (p : Passed g s) where
   cut k = take k (file g s)
 
   abbrev pub present : ℕ → ℕ
-  present k = min (k - firstOf (entries g s)) (length (eventsBytes (events g s)))
+  present k = min (k - firstPlace (entries g s)) (length (eventsBytes (events g s)))
 
   abbrev pub before : ℕ → List Ev
   before k = wholly (present k) (events g s)
@@ -47,21 +48,21 @@ module _ {g : Game} {s : Stores} (p : Passed g s) where
   unfolding file
   under-15 k h = any.under-15 (entries g s) (events g s) tail (fresh p) (all-listed p) (length-fits p) k h
 
-  pub in-table : (k : ℕ) → 15 ≤ k → k < firstOf (entries g s)
+  pub in-table : (k : ℕ) → 15 ≤ k → k < firstPlace (entries g s)
       → (walkOf (cut k) ≡ walked.Refused 15 15) × ((place : ℕ) → stepOf (cut k) place ≡ step.Refused 15 15)
   unfolding file
   in-table k h l = any.in-table (entries g s) (events g s) tail (fresh p) (all-listed p) (length-fits p) k h l
 
   -- once it is whole: exactly the events wholly before the cut, in order, their codes and payloads unaltered
-  pub found : (k : ℕ) → firstOf (entries g s) ≤ k → eventsRead (cut k) ≡ before k
+  pub found : (k : ℕ) → firstPlace (entries g s) ≤ k → eventsRead (cut k) ≡ before k
   unfolding file
   found k h = any.events (entries g s) (events g s) tail (fresh p) (all-listed p) (length-fits p) k h
 
   -- their number, the bytes of events after them, whole exactly when all declared bytes are there, and the place after them
-  pub walk : (k : ℕ) → firstOf (entries g s) ≤ k
+  pub walk : (k : ℕ) → firstPlace (entries g s) ≤ k
       → walkOf (cut k)
       ≡ walked.Done (length (before k)) (present k - length (eventsBytes (before k))) (leb (15 + length (tableBytes (entries g s) ++ eventsBytes (events g s))) k)
-      (firstOf (entries g s) + length (eventsBytes (before k)))
+      (firstPlace (entries g s) + length (eventsBytes (before k)))
   unfolding file
   walk k h = any.walk (entries g s) (events g s) tail (fresh p) (all-listed p) (length-fits p) k h
 

@@ -15,43 +15,35 @@ use Rattle.format.specs.declared.event.Event.the-variants.{GameStart}
 use Rattle.format.proofs.Files.{events-cons, events-append}
 use Rattle.layout.specs.declared.columns.Family.{Family}
 use Rattle.layout.specs.declared.columns.Family.the-variants.{Item, FodPlatform, DreamlandWhispy, StadiumTransformation}
-use Rattle.frames.specs.Stores.{Lent}
-use Rattle.frames.specs.Accepted.{Accepted, Ranges}
-use Rattle.frames.specs.declared.input.Frames.{Frames}
-use Rattle.start_block.specs.Block.{blockOf}
-use Rattle.start_block.proofs.Blocks.{length-block}
+use Rattle.game.specs.Stores.{Lent, Stores}
+use Rattle.frames.specs.Inner.{Accepted}
+use Rattle.game.specs.declared.frames.Frames.{Frames}
+use Rattle.start.specs.Block.{startBlock}
+use Rattle.start.proofs.Blocks.{length-start-block}
 use Rattle.codes.specs.Blocks.{blockCount, codeEvents}
-use Rattle.codes.specs.End.{endEvents}
-use Rattle.codes.specs.Tail.{tailOf}
-use Rattle.codes.proofs.Lengths.{length-codes, length-ends}
+use Rattle.ending.specs.End.{endEvents}
+use Rattle.ending.specs.Tail.{tailOf}
+use Rattle.codes.proofs.Lengths.{length-codes}
+use Rattle.ending.proofs.Lengths.{length-ends}
 use Rattle.events.specs.Events.{framesEvents}
-use Rattle.events.specs.Framed.{Rising, Framed}
+use Rattle.events.specs.Inner.{Framed}
 use Rattle.events.proofs.Lengths.{length-frames}
-use Rattle.ser.specs.declared.game.Game.{Game}
-use Rattle.ser.specs.Write.{Stores, entries, startEvent, events, file}
+use Rattle.game.specs.declared.Game.{Game}
+use Rattle.ser.specs.Write.{entries, startEvent, events, file}
 use Rattle.ser.specs.Length.{rawLength}
-use Rattle.ser.specs.Parts.{frontBytes, restBytes}
+use Rattle.ser.specs.Inner.{frontBytes, restBytes}
 
 -- ---- what the frames' writer needs, of an accepted input
-
-rising : {n rows : ℕ} {os : List ℕ} → Ranges n rows os → Rising os n rows
-rising r = record {
-  count = r .entries;
-  first = r .first;
-  last = r .last;
-  rise = r .rising;
-  inside = λ i h. r .inside (i + 1) (omega arith);
-}
 
 pub framed : {f : Frames} {s : Lent} → Accepted f s → Framed f s
 framed a = record {
   modest = a .modest;
   ids = a .ids;
   stores = λ family. a .stores family .size;
-  items = λ h. rising (a .items .has h);
-  fods = λ h. rising (a .fods .has h);
-  whispys = λ h. rising (a .whispys .has h);
-  stadiums = λ h. rising (a .stadiums .has h);
+  items = a .items .has;
+  fods = a .fods .has;
+  whispys = a .whispys .has;
+  stadiums = a .stadiums .has;
 }
 
 module _ (g : Game) (s : Stores) where
@@ -67,7 +59,7 @@ module _ (g : Game) (s : Stores) where
       ∙ ap (λ (l : List ℕ). eventBytes (startEvent g s) ++ l) (events-append _ _ ∙ ap (λ (l : List ℕ). eventsBytes (codeEvents (yes (g .«codes_given»)) (s .codes) (g .«actual_size»)) ++ l) (events-append _ _))
 
   start-size : length (eventBytes (startEvent g s)) ≡ 1 + length (s .template)
-  start-size = let e = length-block (g .frames .version) (g .start) (s .template) in omega arith
+  start-size = let e = length-start-block (g .frames .version) (g .start) (s .template) in omega arith
 
   -- the bytes from the table through the last event, by counts
   pub length-raw : (yes (g .«codes_given») ≡ true → length (s .codes) ≡ 512 * blockCount (g .«actual_size»)) → Framed (g .frames) (s .lent)

@@ -11,28 +11,28 @@ use Rattle.format.specs.File.{tableBytes, eventsBytes}
 use Rattle.format.specs.Mark.{yes}
 use Rattle.format.specs.declared.event.Event.the-variants.{GameStart}
 use Rattle.layout.specs.Payloads.{entriesOf}
-use Rattle.start_block.specs.Block.{blockOf}
-use Rattle.ser.specs.declared.game.Game.{Game}
-use Rattle.frames.specs.Stores.{Lent}
+use Rattle.start.specs.Block.{startBlock}
+use Rattle.game.specs.declared.Game.{Game}
+use Rattle.game.specs.Stores.{Lent}
 use Rattle.codes.specs.Blocks.{codeEvents}
-use Rattle.codes.specs.End.{endEvents}
-use Rattle.codes.specs.Tail.{tailOf}
+use Rattle.ending.specs.End.{endEvents}
+use Rattle.ending.specs.Tail.{tailOf}
 use Rattle.events.specs.Events.{framesEvents}
-use Rattle.ser.specs.Parts.{frontBytes, restBytes}
+use Rattle.ser.specs.Inner.{frontBytes, restBytes}
 
 -- with the mark and the code as the code found them
 pub front-parts : (g : Game) (template : List ℕ) (raw : ℕ) (b : Bool) (k : ℕ) → yes (g .«codes_given») ≡ b → codeOf GameStart ≡ k
     → frontBytes g template raw
     ≡ signature
     ++ (be 4 raw
-    ++ (tableBytes (entriesOf (g .frames .version) (length template) b (g .«actual_size»)) ++ ((k ∷ []) ++ blockOf (g .frames .version) (g .start) template)))
+    ++ (tableBytes (entriesOf (g .frames .version) (length template) b (g .«actual_size»)) ++ ((k ∷ []) ++ startBlock (g .frames .version) (g .start) template)))
 unfolding frontBytes
 front-parts g template raw b k e f =
     ap₂
     (λ (x : Bool) (y : ℕ).
     signature
     ++ (be 4 raw
-    ++ (tableBytes (entriesOf (g .frames .version) (length template) x (g .«actual_size»)) ++ ((y ∷ []) ++ blockOf (g .frames .version) (g .start) template))))
+    ++ (tableBytes (entriesOf (g .frames .version) (length template) x (g .«actual_size»)) ++ ((y ∷ []) ++ startBlock (g .frames .version) (g .start) template))))
     e f
 
 pub rest-parts : (g : Game) (lent : Lent) (codes metadata : List ℕ) (b m : Bool) → yes (g .«codes_given») ≡ b → yes (g .«metadata_given») ≡ m

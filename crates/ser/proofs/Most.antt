@@ -10,6 +10,7 @@ use lib.Dec.{lit≤}
 use lib.ListN.{length}
 use Rattle.format.specs.declared.version.Version.{Version}
 use Rattle.layout.specs.Columns.{chosen, columnsOf, widthsOf, sum, hasFamily}
+use Rattle.layout.proofs.Laws.{each}
 use Rattle.layout.specs.Payloads.{headSize, recordSize, endSize, entriesOf}
 use Rattle.layout.specs.declared.columns.Column.{Column}
 use Rattle.layout.specs.declared.columns.Family.{Family}
@@ -20,13 +21,13 @@ use Rattle.format.specs.Version.{gteOf}
 use Rattle.format.specs.File.{tableBytes}
 use Rattle.format.proofs.Files.{length-table}
 use Rattle.layout.proofs.Entries.{few-entries}
-use Rattle.frames.specs.Input.{slotsOf}
-use Rattle.frames.specs.Presence.{playersPresent}
-use Rattle.frames.specs.Accepted.{Modest}
-use Rattle.frames.specs.declared.input.Frames.{Frames}
+use Rattle.game.specs.Frames.{slotsOf}
+use Rattle.players.specs.Presence.{playersPresent}
+use Rattle.players.specs.Inner.{Modest}
+use Rattle.game.specs.declared.frames.Frames.{Frames}
 use Rattle.codes.specs.Blocks.{blockCount}
-use Rattle.codes.specs.End.{endCount}
-use Rattle.ser.specs.declared.game.Game.{Game}
+use Rattle.ending.specs.Inner.{endCount}
+use Rattle.game.specs.declared.Game.{Game}
 use Rattle.ser.specs.Length.{rawLength}
 
 -- what a version has of a list's widths is no more than all of them
@@ -52,14 +53,7 @@ most StadiumTransformation = 9
 
 all-widths : (f : Family) → 1 + (headSize f + sum (map (λ (c : Column). c .width) (columnsOf f))) ≡ most f
 unfolding columnsOf sum
-all-widths Pre = refl
-all-widths Post = refl
-all-widths FrameStart = refl
-all-widths Item = refl
-all-widths FrameEnd = refl
-all-widths FodPlatform = refl
-all-widths DreamlandWhispy = refl
-all-widths StadiumTransformation = refl
+all-widths = each (λ (f : Family). 1 + (headSize f + sum (map (λ (c : Column). c .width) (columnsOf f))) ≡ most f) (refl, refl, refl, refl, refl, refl, refl, refl)
 
 pub at-most : (v : Version) (f : Family) → 1 + recordSize f v ≤ most f
 at-most v f = let h = sum-chosen (λ (c : Column). gteOf v (c .major) (c .minor)) (columnsOf f) in let e = all-widths f in omega arith

@@ -7,59 +7,53 @@ use Prim.Native.Nat.{ℕ, zero, suc, _+_, _*_, _≤_, _<_}
 use native.Mathlib.Nat.{suc-mul, zero-mul}
 use native.Mathlib.Omega.{arith}
 use borrow.Author.Tests.{lt-ltb, le-ltb, ltb-false}
-use lib.Dec.{ltb}
+use lib.Dec.{ltb, lit<}
 use lib.ListN.{length, length-append}
 use Rattle.wire.specs.Wire.{Wrote}
 use Rattle.wire.proofs.Laws.{length-be}
 use Rattle.format.specs.File.{tableBytes, eventsBytes, fileOf}
 use Rattle.format.specs.Mark.{yes}
-use Rattle.format.specs.Refusal.{lowest}
+use Rattle.format.specs.Refusal.{refuse, lowest}
 use Rattle.format.specs.declared.version.Version.{Version}
-use Rattle.format.proofs.Refusals.{here, skip, none, passed, lowest-after, lowest-first}
+use Rattle.format.proofs.Refusals.{Numbered, here, skip, none, passed, lowest-after, lowest-first}
 use Rattle.format.proofs.Tests.{or-none}
-use Rattle.frames.specs.Input.{Slot}
+use Rattle.game.specs.Frames.{Slot}
 use Rattle.frames.specs.Judge.{refusals}
-use Rattle.frames.specs.Presence.{presentAt, playersPresent}
-use Rattle.frames.specs.Accepted.{Accepted}
-use Rattle.frames.proofs.Accepted.{accepted, few-bytes}
-use Rattle.frames.proofs.PresenceLaws.{count-most}
+use Rattle.players.specs.Presence.{presentAt, playersPresent}
+use Rattle.frames.specs.Inner.{Accepted}
+use Rattle.frames.proofs.Accepted.{numbered, accepted, few-bytes}
+use Rattle.players.proofs.PresenceLaws.{count-most}
 use Rattle.start.specs.Length.{lengthOf}
-use Rattle.start.specs.Refusal.{badStart}
+use Rattle.start.specs.Refusal.{blockWrong, badStart}
 use Rattle.codes.specs.Blocks.{codesWrong}
-use Rattle.codes.specs.End.{endWrong}
-use Rattle.codes.specs.Tail.{tailOf}
-use Rattle.codes.proofs.Lengths.{length-tail}
-use Rattle.ser.specs.declared.game.Game.{Game}
-use Rattle.ser.specs.declared.game.Written.the-variants.{File, Refused}
-use Rattle.ser.specs.Write.{Stores, givenBytes, blockBad, entries, events, file, judged, refusal, answered, left, Outcome}
-use Rattle.ser.proofs.Laws.{stopped, went-on, seven}
+use Rattle.ending.specs.End.{endWrong}
+use Rattle.ending.specs.Tail.{tailOf}
+use Rattle.ending.proofs.Lengths.{length-tail}
+use Rattle.game.specs.declared.Game.{Game}
+use Rattle.ser.specs.declared.written.Written.the-variants.{File, Refused}
+use Rattle.game.specs.Stores.{Stores}
+use Rattle.ser.specs.Write.{givenBytes, entries, events, file, judged, refusal, answered, writtenNumbers, left, Outcome}
+use Rattle.ser.proofs.Laws.{stopped, went-on}
 
 -- ---- a game that is not refused
 
 pub record Passed (g : Game) (s : Stores) : Type 0 where
   pub frames : Accepted (g .frames) (s .lent)
-  pub block : blockBad (g .frames .version) (length (s .template)) ≡ false
+  pub block : blockWrong (g .frames .version) (length (s .template)) ≡ false
   pub start : badStart (g .frames .version) (g .start) ≡ false
   pub coded : codesWrong (g .frames .version) (yes (g .«codes_given»)) (s .codes) (g .«actual_size») ≡ false
   pub codes-few : givenBytes (g .«codes_given») (s .codes) ≤ 16777216
   pub metadata-few : givenBytes (g .«metadata_given») (s .metadata) ≤ 65535
 
-pub passes : (g : Game) (s : Stores) → lowest 1 (judged g s) ≡ 0 → Passed g s
+pub passes : (g : Game) (s : Stores) → lowest (judged g s) ≡ 0 → Passed g s
 unfolding judged
 passes g s e =
     let a = givenBytes (g .«codes_given») (s .codes) in
     let b = givenBytes (g .«metadata_given») (s .metadata) in
-    let first : lowest 1 (refusals (g .frames) (s .lent) a b) ≡ 0 = lowest-first 0 _ _ e in
-    let others =
-    blockBad (g .frames .version) (length (s .template))
-    ∷ badStart (g .frames .version) (g .start)
-    ∷ codesWrong (g .frames .version) (yes (g .«codes_given»)) (s .codes) (g .«actual_size»)
-    ∷ endWrong (g .frames .version) (g .end) (g .«double_end»)
-    ∷ [] in
-    let rest : lowest 8 others ≡ 0 = sym (ap (λ (i : ℕ). lowest i others) (seven (g .frames) (s .lent) a b)) ∙ sym (lowest-after 0 (refusals (g .frames) (s .lent) a b) others first) ∙ e in
-    let (eight, r1) = passed 7 _ _ rest in
-    let (nine, r2) = passed 8 _ _ r1 in
-    let (ten, r3) = passed 9 _ _ r2 in
+    let first : lowest (refusals (g .frames) (s .lent) a b) ≡ 0 = lowest-first _ _ e in
+    let (eight, r1) = passed _ _ _ (sym (lowest-after (refusals (g .frames) (s .lent) a b) _ (numbered (g .frames) (s .lent) a b) first) ∙ e) in
+    let (nine, r2) = passed _ _ _ r1 in
+    let (ten, r3) = passed _ _ _ r2 in
     record {
       frames = accepted (g .frames) (s .lent) a b first;
       block = eight;
@@ -72,11 +66,7 @@ passes g s e =
 -- a game that `write` does not refuse, whatever the output
 pub not-refused : (g : Game) (s : Stores) (room : ℕ) → refusal g s room ≡ 0 → Passed g s
 unfolding refusal
-not-refused g s room e = passes g s (lowest-first 0 (judged g s) _ e)
-
-pub block-fits : (v : Version) (n : ℕ) → blockBad v n ≡ false → (lengthOf v ≤ n) × (n ≤ 65535)
-unfolding blockBad
-block-fits v n e = let (a, b) = or-none (ltb n (lengthOf v)) (ltb 65535 n) e in (ltb-false n (lengthOf v) a, ltb-false 65535 n b)
+not-refused g s room e = passes g s (lowest-first (judged g s) _ e)
 
 -- no more players than slots in each frame
 pub players-most : (bits : List ℕ) (ss : List Slot) (n : ℕ) → playersPresent bits ss n ≤ length ss * n
@@ -104,34 +94,34 @@ refused-as : (k m : ℕ) (out f : List ℕ) → (k ≡ 0 → ⊥) → (answered 
 refused-as zero m out f h = absurd (h refl)
 refused-as (suc k) m out f h = (refl, refl)
 
-pub eleven : (g : Game) (s : Stores) → 1 + length (judged g s) ≡ 12
-unfolding judged refusals
-eleven g s = refl
+pub numbered-eleven : (g : Game) (s : Stores) → Numbered (judged g s)
+unfolding Numbered judged refusals
+numbered-eleven g s = (lit< tt, (lit< tt, (lit< tt, (lit< tt, (lit< tt, (lit< tt, (lit< tt, (lit< tt, (lit< tt, (lit< tt, (lit< tt, tt)))))))))))
 
 module _ {g : Game} {s : Stores} {out : List ℕ} where
   outcome-refused : (k : ℕ) → k ≡ refusal g s (length out) → (k ≡ 0 → ⊥) → Outcome g s out (Refused k) out
   outcome-refused k e h =
       let (a, b) = refused-as k (length (file g s)) out (file g s) h in
       record {
-        answer-is = sym (ap (λ (i : ℕ). answered i (length (file g s))) (sym e) ∙ a);
+        answer-is = ap writtenNumbers (sym (ap (λ (i : ℕ). answered i (length (file g s))) (sym e) ∙ a));
         out-is = sym (ap (λ (i : ℕ). left i out (file g s)) (sym e) ∙ b);
       }
 
-  pub judged-refused : (n : ℕ) → n ≡ lowest 1 (judged g s) → (n ≡ 0 → ⊥) → Outcome g s out (Refused n) out
+  pub judged-refused : (n : ℕ) → n ≡ lowest (judged g s) → (n ≡ 0 → ⊥) → Outcome g s out (Refused n) out
   unfolding refusal
   judged-refused n e h = outcome-refused n (stopped _ _ e h) h
 
-  pub short-refused : (n total : ℕ) → n ≡ lowest 1 (judged g s) → n ≡ 0 → length (file g s) ≡ total → length out < total → Outcome g s out (Refused 12) out
+  pub short-refused : (n total : ℕ) → n ≡ lowest (judged g s) → n ≡ 0 → length (file g s) ≡ total → length out < total → Outcome g s out (Refused 12) out
   unfolding refusal
   short-refused n total e z q h =
-      outcome-refused 12 (went-on _ _ 12 12 e z (eleven g s) (here 12 _ _ (lt-ltb (length out) (length (file g s)) (omega arith)))) (λ x. absurd (omega arith))
+      outcome-refused 12 (went-on _ _ 12 e z (numbered-eleven g s) (here 12 _ _ (lt-ltb (length out) (length (file g s)) (omega arith)))) (λ x. absurd (omega arith))
 
-  pub written : {after : List ℕ} (n total : ℕ) {next : ℕ} → n ≡ lowest 1 (judged g s) → n ≡ 0 → length (file g s) ≡ total → total ≤ length out
+  pub written : {after : List ℕ} (n total : ℕ) {next : ℕ} → n ≡ lowest (judged g s) → n ≡ 0 → length (file g s) ≡ total → total ≤ length out
       → Wrote out after 0 next (file g s) → Outcome g s out (File total) after
   unfolding refusal
   written n total e z q h w =
-      let zero-is : 0 ≡ lowest 1 (judged g s ++ (ltb (length out) (length (file g s)) ∷ [])) = went-on _ _ 12 0 e z (eleven g s) (skip 12 _ _ _ (le-ltb (length out) (length (file g s)) (omega arith)) (none 13)) in
+      let zero-is : 0 ≡ lowest (judged g s ++ (refuse 12 (ltb (length out) (length (file g s))) ∷ [])) = went-on _ _ 0 e z (numbered-eleven g s) (skip 12 _ _ _ (le-ltb (length out) (length (file g s)) (omega arith)) none) in
       record {
-        answer-is = ap File (sym q) ∙ ap (λ (i : ℕ). answered i (length (file g s))) zero-is;
+        answer-is = ap writtenNumbers (ap File (sym q) ∙ ap (λ (i : ℕ). answered i (length (file g s))) zero-is);
         out-is = w .after-is ∙ ap (λ (i : ℕ). left i out (file g s)) zero-is;
       }

@@ -18,16 +18,19 @@ use Rattle.format.specs.declared.event.Event.the-variants as event
 use Rattle.format.proofs.Files.{listed-append}
 use Rattle.layout.specs.Payloads.{listed, payloadSize}
 use Rattle.layout.proofs.Entries.{fresh-entries, entry-at}
-use Rattle.frames.proofs.SlotLaws.{slots-few}
-use Rattle.start_block.proofs.Blocks.{length-block}
+use Rattle.players.proofs.SlotLaws.{slots-few}
+use Rattle.start.proofs.Blocks.{length-start-block}
 use Rattle.codes.proofs.Laws.{right-codes}
-use Rattle.codes.proofs.Lists.{listed-codes, listed-ends}
+use Rattle.codes.proofs.Lists.{listed-codes}
+use Rattle.ending.proofs.Lists.{listed-ends}
 use Rattle.events.proofs.Sizes.{listed-frames}
-use Rattle.ser.specs.declared.game.Game.{Game}
-use Rattle.ser.specs.Write.{Stores, entries, startEvent, events, file}
+use Rattle.game.specs.declared.Game.{Game}
+use Rattle.game.specs.Stores.{Stores}
+use Rattle.ser.specs.Write.{entries, startEvent, events, file}
 use Rattle.ser.specs.Length.{rawLength}
 use Rattle.ser.proofs.Files.{framed, length-raw}
-use Rattle.ser.proofs.Outcomes.{Passed, block-fits}
+use Rattle.ser.proofs.Outcomes.{Passed}
+use Rattle.start.proofs.Refusals.{block-fits}
 use Rattle.ser.proofs.Steps.{whole, raw-fits}
 
 module _ {g : Game} {s : Stores} (p : Passed g s) where
@@ -41,7 +44,7 @@ module _ {g : Game} {s : Stores} (p : Passed g s) where
   unfolding Listed listed payloadSize
   listed-start =
       let (inside, size) = entry-at (g .frames .version) (length (s .template)) (yes (g .«codes_given»)) (g .«actual_size») 0 event.GameStart (lit< tt) refl refl in
-      (inside, size ∙ sym (length-block (g .frames .version) (g .start) (s .template)), tt)
+      (inside, size ∙ sym (length-start-block (g .frames .version) (g .start) (s .template)), tt)
 
   pub all-listed : Listed (entries g s) (events g s)
   unfolding events

@@ -9,16 +9,18 @@ use native.Mathlib.Omega.{arith}
 use lib.ListN.{length}
 use Rattle.wire.specs.Wire.{Room}
 use Rattle.format.specs.Mark.{yes}
-use Rattle.frames.specs.Input.{slotsOf}
+use Rattle.game.specs.Frames.{slotsOf}
 use Rattle.codes.specs.Blocks.{blockCount}
 use Rattle.codes.proofs.Laws.{right-codes}
-use Rattle.ser.specs.declared.game.Game.{Game}
-use Rattle.ser.specs.Write.{Stores, givenBytes, file}
+use Rattle.game.specs.declared.Game.{Game}
+use Rattle.game.specs.Stores.{Stores}
+use Rattle.ser.specs.Write.{givenBytes, file}
 use Rattle.ser.specs.Length.{rawLength}
-use Rattle.ser.specs.Parts.{frontBytes, restBytes}
+use Rattle.ser.specs.Inner.{frontBytes, restBytes}
 use Rattle.ser.proofs.Files.{framed, length-raw, file-parts}
 use Rattle.ser.proofs.Most.{raw-small}
-use Rattle.ser.proofs.Outcomes.{Passed, block-fits, players-most, file-size}
+use Rattle.ser.proofs.Outcomes.{Passed, players-most, file-size}
+use Rattle.start.proofs.Refusals.{block-fits}
 
 module _ {g : Game} {s : Stores} (p : Passed g s) where
   pub whole : yes (g .«codes_given») ≡ true → length (s .codes) ≡ 512 * blockCount (g .«actual_size»)

@@ -17,15 +17,15 @@ use Rattle.format.specs.Mark.{yes}
 use Rattle.layout.specs.declared.columns.Family.{Family}
 use Rattle.layout.specs.declared.columns.Family.the-variants.{Pre, Post, FrameStart, Item, FrameEnd, FodPlatform, DreamlandWhispy, StadiumTransformation}
 use Rattle.codes.specs.Blocks.{blockCount}
-use Rattle.codes.specs.End.{endCount}
-use Rattle.codes.specs.declared.end.End.{End}
+use Rattle.ending.specs.Inner.{endCount}
+use Rattle.game.specs.declared.end.End.{End}
 use Rattle.events.specs.Length.{eventSize, framesLength}
 use Rattle.ser.specs.Length.{rawLength}
-use Rattle.ser.specs.declared.game.Game.{Game}
+use Rattle.game.specs.declared.Game.{Game}
 use Rattle.events.proofs.Sizes.{has-pre, has-post}
-use Rattle.frames.specs.Input.{slotsOf}
-use Rattle.frames.specs.Presence.{playersPresent}
-use Rattle.frames.specs.declared.input.Frames.{Frames}
+use Rattle.game.specs.Frames.{slotsOf}
+use Rattle.players.specs.Presence.{playersPresent}
+use Rattle.game.specs.declared.frames.Frames.{Frames}
 
 pub table-is : (t : List Entry) (n : ℕ) → n ≡ length t → n ≤ 12 → (2 + 3 * n ≡ length (tableBytes t)) × (2 + 3 * n ≤ 38)
 table-is t n e h = (omega (arith, length-table t, e), omega arith)

@@ -8,9 +8,9 @@ use Rattle.format.specs.File.{tableBytes}
 use Rattle.format.specs.Mark.{yes}
 use Rattle.layout.specs.Payloads.{endSize, entriesOf}
 use Rattle.codes.specs.Blocks.{blockCount}
-use Rattle.codes.specs.End.{endCount}
+use Rattle.ending.specs.Inner.{endCount}
 use Rattle.events.specs.Length.{framesLength}
-use Rattle.ser.specs.declared.game.Game.{Game}
+use Rattle.game.specs.declared.Game.{Game}
 
 -- the table, the start block with its code, the code blocks, the frames, and the ends
 unfoldable pub rawLength : Game → List ℕ → ℕ → ℕ

@@ -1,3 +1,3 @@
 pub mod Write
 pub mod Length
-pub mod Parts
+pub mod Inner

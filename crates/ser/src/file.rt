@@ -8,16 +8,16 @@ ghost use Rattle.wire.specs.Wire.{Room, Wrote};
 ghost use Rattle.start.specs.Length.{lengthOf};
 ghost use Rattle.start.specs.Refusal.{badStart};
 ghost use Rattle.format.specs.Mark.{yes};
-ghost use Rattle.frames.specs.Input.{Slotted};
-ghost use Rattle.frames.specs.Stores.{cells, offsets, lent};
+ghost use Rattle.players.specs.Inner.{Slotted};
+ghost use Rattle.game.specs.Stores.{cells, offsets, lent};
 ghost use Rattle.codes.specs.Blocks.{blockCount};
-ghost use Rattle.events.specs.Framed.{Framed};
-ghost use Rattle.ser.specs.Parts.{frontBytes, restBytes};
-use super::game::Game;
+ghost use Rattle.events.specs.Inner.{Framed};
+ghost use Rattle.ser.specs.Inner.{frontBytes, restBytes};
 use super::judge::is_given;
 use format::event::Event;
-use frames::slots::Slots;
+use game::Game;
 use layout::payloads::put_table;
+use players::slots::Slots;
 
 // The signature, the length, the payload table and GameStart.
 pub fn put_front(out: &mut [u8], at: usize, g: Game, template: &[u8], raw: u32) -> usize
@@ -40,7 +40,7 @@ pub fn put_front(out: &mut [u8], at: usize, g: Game, template: &[u8], raw: u32) 
         g.actual_size,
     );
     p = wire::put_u8(out, p, Event::GameStart.code());
-    start_block::block::put_block(out, p, template, v, begin)
+    start::block::put_block(out, p, template, v, begin)
 }
 
 // The code blocks, the frames, the ends and the tail.
@@ -67,10 +67,22 @@ pub fn put_rest(
     metadata: &[u8],
 ) -> usize
     requires { ⌜ (yes (g .«codes_given») ≡ true → length (now codes) ≡ 512 * blockCount (g .«actual_size»))
-        × Framed (g .frames) (lent (cells (now ids) (now starts) (now pres) (now posts) (now ends) (now items) (now fods) (now whispys) (now stadiums)) (offsets (now «item_offsets») (now «fod_offsets») (now «whispy_offsets») (now «stadium_offsets»)) (now presence))
+        × Framed (g .frames) (lent
+        (cells (now ids) (now starts) (now pres) (now posts) (now ends)
+        (now items) (now fods) (now whispys) (now stadiums))
+        (offsets (now «item_offsets») (now «fod_offsets») (now «whispy_offsets») (now «stadium_offsets»))
+        (now presence))
         × Slotted (g .frames) s
-        × Room (now out) at (restBytes g (lent (cells (now ids) (now starts) (now pres) (now posts) (now ends) (now items) (now fods) (now whispys) (now stadiums)) (offsets (now «item_offsets») (now «fod_offsets») (now «whispy_offsets») (now «stadium_offsets»)) (now presence)) (now codes) (now metadata)) ⌝ }
-    ensures { λ r. ⌜ Wrote (now (out .entry)) (now (out .exit)) at r (restBytes g (lent (cells (now (ids .entry)) (now (starts .entry)) (now (pres .entry)) (now (posts .entry)) (now (ends .entry)) (now (items .entry)) (now (fods .entry)) (now (whispys .entry)) (now (stadiums .entry))) (offsets (now («item_offsets» .entry)) (now («fod_offsets» .entry)) (now («whispy_offsets» .entry)) (now («stadium_offsets» .entry))) (now (presence .entry))) (now (codes .entry)) (now (metadata .entry))) ⌝ }
+        × Room (now out) at (restBytes g (lent
+        (cells (now ids) (now starts) (now pres) (now posts) (now ends)
+        (now items) (now fods) (now whispys) (now stadiums))
+        (offsets (now «item_offsets») (now «fod_offsets») (now «whispy_offsets») (now «stadium_offsets»))
+        (now presence)) (now codes) (now metadata)) ⌝ }
+    ensures { λ r. ⌜ Wrote (now (out .entry)) (now (out .exit)) at r (restBytes g (lent
+        (cells (now (ids .entry)) (now (starts .entry)) (now (pres .entry)) (now (posts .entry)) (now (ends .entry))
+        (now (items .entry)) (now (fods .entry)) (now (whispys .entry)) (now (stadiums .entry)))
+        (offsets (now («item_offsets» .entry)) (now («fod_offsets» .entry)) (now («whispy_offsets» .entry)) (now («stadium_offsets» .entry)))
+        (now (presence .entry))) (now (codes .entry)) (now (metadata .entry))) ⌝ }
 {
     let f = g.frames;
     let end = g.end;
@@ -95,6 +107,6 @@ pub fn put_rest(
         stadium_offsets,
         presence,
     );
-    p = codes::end::put_ends(out, p, f.version, end, g.double_end);
-    codes::tail::put_tail(out, p, is_given(g.metadata_given), metadata)
+    p = ending::end::put_ends(out, p, f.version, end, g.double_end);
+    ending::tail::put_tail(out, p, is_given(g.metadata_given), metadata)
 }

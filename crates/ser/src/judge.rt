@@ -2,11 +2,12 @@
 ghost use mathlib.Core.Path.{_≡_};
 ghost use lib.ListN.{length};
 ghost use Rattle.format.specs.Refusal.{lowest};
-ghost use Rattle.frames.specs.Stores.{cells, offsets, lent};
+ghost use Rattle.game.specs.Stores.{cells, offsets, lent, stores};
 ghost use Rattle.format.specs.Mark.{yes};
-ghost use Rattle.ser.specs.Write.{stores, givenBytes, blockBad, judged};
-use super::game::Game;
+ghost use Rattle.ser.specs.Write.{givenBytes, judged};
+use format::refusal;
 use format::version::Version;
+use game::Game;
 
 // How many bytes are given with a mark: none without it.
 pub fn given_bytes(mark: u8, bytes: &[u8]) -> usize
@@ -16,16 +17,6 @@ pub fn given_bytes(mark: u8, bytes: &[u8]) -> usize
         return 0;
     }
     bytes.len()
-}
-
-// Whether a start block is shorter than the version's length, or over 65,535.
-fn block_wrong(v: Version, template: &[u8]) -> bool
-    ensures { λ r. ⌜ r ≡ blockBad v (length (now (template .entry))) ⌝ }
-{
-    if template.len() < start::length::block_length(v) {
-        return true;
-    }
-    65_535 < template.len()
 }
 
 pub fn is_given(mark: u8) -> bool
@@ -54,7 +45,11 @@ pub fn refused(
     codes: &[u8],
     metadata: &[u8],
 ) -> u8
-    ensures { λ r. ⌜ r ≡ lowest 1 (judged g (stores (lent (cells (now (ids .entry)) (now (starts .entry)) (now (pres .entry)) (now (posts .entry)) (now (ends .entry)) (now (items .entry)) (now (fods .entry)) (now (whispys .entry)) (now (stadiums .entry))) (offsets (now («item_offsets» .entry)) (now («fod_offsets» .entry)) (now («whispy_offsets» .entry)) (now («stadium_offsets» .entry))) (now (presence .entry))) (now (template .entry)) (now (codes .entry)) (now (metadata .entry)))) ⌝ }
+    ensures { λ r. ⌜ r ≡ lowest (judged g (stores (lent
+        (cells (now (ids .entry)) (now (starts .entry)) (now (pres .entry)) (now (posts .entry)) (now (ends .entry))
+        (now (items .entry)) (now (fods .entry)) (now (whispys .entry)) (now (stadiums .entry)))
+        (offsets (now («item_offsets» .entry)) (now («fod_offsets» .entry)) (now («whispy_offsets» .entry)) (now («stadium_offsets» .entry)))
+        (now (presence .entry))) (now (template .entry)) (now (codes .entry)) (now (metadata .entry)))) ⌝ }
 {
     let f = g.frames;
     let n = frames::judge::judge(
@@ -79,19 +74,19 @@ pub fn refused(
     if n != 0 {
         return n;
     }
-    if block_wrong(f.version, template) {
-        return 8;
+    if start::judge::block_wrong(f.version, template.len()) {
+        return refusal::BAD_BLOCK;
     }
     let begin = g.start;
     if start::judge::is_bad_start(f.version, begin) {
-        return 9;
+        return refusal::BAD_START;
     }
     if codes::blocks::codes_wrong(f.version, is_given(g.codes_given), codes, g.actual_size) {
-        return 10;
+        return refusal::BAD_CODES;
     }
     let end = g.end;
-    if codes::end::end_wrong(f.version, end, g.double_end) {
-        return 11;
+    if ending::end::end_wrong(f.version, end, g.double_end) {
+        return refusal::BAD_END;
     }
     0
 }

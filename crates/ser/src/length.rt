@@ -6,23 +6,22 @@ ghost use lib.ListN.{length};
 ghost use Rattle.format.specs.File.{tableBytes};
 ghost use Rattle.layout.specs.Payloads.{endSize, entriesOf};
 ghost use Rattle.codes.specs.Blocks.{blockCount};
-ghost use Rattle.codes.specs.End.{endCount};
-ghost use Rattle.frames.specs.Input.{Slotted};
-ghost use Rattle.frames.specs.Accepted.{Modest};
-ghost use Rattle.frames.specs.Judge.{presenceWrong};
+ghost use Rattle.ending.specs.Inner.{endCount};
+ghost use Rattle.players.specs.Inner.{Slotted, Modest};
+ghost use Rattle.players.specs.Presence.{presenceWrong};
 ghost use Rattle.events.specs.Length.{eventSize, framesLength};
 ghost use Rattle.ser.specs.Length.{rawLength};
-use super::game::Game;
 use super::judge::is_given;
-use codes::end::End;
 use format::version::Version;
-use frames::input::Frames;
-use frames::presence::players_present;
-use frames::slots::Slots;
+use game::Game;
+use game::end::End;
+use game::frames::Frames;
 use layout::columns::Family;
 use layout::payloads::end_size;
 use layout::payloads::payload_sizes;
 use layout::payloads::record_size;
+use players::presence::players_present;
+use players::slots::Slots;
 
 // The payload table: two bytes, and three an entry.
 pub fn table_len(v: Version, block: usize, given: bool, actual: u32) -> usize

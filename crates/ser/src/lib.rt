@@ -1,6 +1,6 @@
 // The writer: a game and its lent stores become a replay file, or a refusal.
 mod file;
-pub mod game;
 mod judge;
 mod length;
 pub mod write;
+pub mod written;

@@ -1,17 +1,18 @@
 // The public call: a game and its lent stores become a replay file in the output, or a refusal that touches nothing.
 ghost use lib.ListN.{length};
-ghost use Rattle.frames.specs.Stores.{cells, offsets, lent};
-ghost use Rattle.ser.specs.Write.{stores, Outcome};
+ghost use Rattle.game.specs.Stores.{cells, offsets, lent, stores};
+ghost use Rattle.ser.specs.Write.{Outcome};
 use super::file::put_front;
 use super::file::put_rest;
-use super::game::Game;
-use super::game::Written;
 use super::judge::given_bytes;
 use super::judge::is_given;
 use super::judge::refused;
 use super::length::raw_len;
 use super::length::tail_len;
-use frames::slots::slots_of;
+use super::written::Written;
+use format::refusal;
+use game::Game;
+use players::slots::slots_of;
 
 // The file stands at the output's start, and its length is answered; what follows it in the output stays.
 pub fn write(
@@ -35,7 +36,11 @@ pub fn write(
     codes: &[u8],
     metadata: &[u8],
 ) -> Written
-    ensures { λ r. ⌜ Outcome g (stores (lent (cells (now (ids .entry)) (now (starts .entry)) (now (pres .entry)) (now (posts .entry)) (now (ends .entry)) (now (items .entry)) (now (fods .entry)) (now (whispys .entry)) (now (stadiums .entry))) (offsets (now («item_offsets» .entry)) (now («fod_offsets» .entry)) (now («whispy_offsets» .entry)) (now («stadium_offsets» .entry))) (now (presence .entry))) (now (template .entry)) (now (codes .entry)) (now (metadata .entry))) (now (out .entry)) r (now (out .exit)) ⌝ }
+    ensures { λ r. ⌜ Outcome g (stores (lent
+        (cells (now (ids .entry)) (now (starts .entry)) (now (pres .entry)) (now (posts .entry)) (now (ends .entry))
+        (now (items .entry)) (now (fods .entry)) (now (whispys .entry)) (now (stadiums .entry)))
+        (offsets (now («item_offsets» .entry)) (now («fod_offsets» .entry)) (now («whispy_offsets» .entry)) (now («stadium_offsets» .entry)))
+        (now (presence .entry))) (now (template .entry)) (now (codes .entry)) (now (metadata .entry))) (now (out .entry)) r (now (out .exit)) ⌝ }
 {
     let n = refused(
         g,
@@ -69,7 +74,7 @@ pub fn write(
     );
     let total = 15 + (raw + tail);
     if out.len() < total {
-        return Written::Refused(12);
+        return Written::Refused(refusal::SHORT_OUTPUT);
     }
     let p = put_front(out, 0, g, template, raw as u32);
     put_rest(

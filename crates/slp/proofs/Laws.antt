@@ -1,38 +1,65 @@
 -- From the calls of the crates below to the exported ones.
 -- Assumes nothing.
-use Prim.Native.Nat.{ℕ}
+use Prim.Native.Nat.{ℕ, zero, suc, _≤_, _<_}
+use native.Mathlib.Omega.{arith}
+use borrow.Author.Tests.{lt-ltb, le-ltb}
 use mathlib.Core.Path.{_≡_, refl, sym, ap, _∙_}
 use mathlib.Core.List.{List}
 use mathlib.Core.Bool.{Bool, cond}
-use lib.ListN.{length}
+use lib.ListN.{length, getD}
+use Rattle.format.specs.declared.version.Version.{Version}
+use Rattle.layout.specs.Columns.{widthsOf}
+use Rattle.layout.specs.declared.columns.Family.{Family}
+use Rattle.layout.specs.declared.columns.Family.the-variants.{StadiumTransformation}
 use Rattle.de.specs.declared.Walked.{Walked}
 use Rattle.de.specs.declared.Walked.the-variants.{Done}
 use Rattle.slp.specs.declared.answers.SlpWalked.{SlpWalked}
 use Rattle.rollback.specs.Mask as rollback
 use Rattle.rollback.specs.declared.frame.Rollbacks.{Rollbacks}
 use Rattle.rollback.specs.declared.frame.Masked.{Masked}
-use Rattle.ser.specs.Write.{Stores}
+use Rattle.rollback.proofs.Only.{same-answer}
+use Rattle.game.specs.Stores.{Stores, families}
 use Rattle.ser.specs.Write as write
-use Rattle.ser.specs.declared.game.Game.{Game}
-use Rattle.ser.specs.declared.game.Written.{Written}
+use Rattle.game.specs.declared.Game.{Game}
+use Rattle.ser.specs.declared.written.Written.{Written}
 use Rattle.slp.specs.declared.answers.SlpWritten.{SlpWritten}
-use Rattle.slp.specs.Answers.{walked, written}
+use Rattle.slp.specs.Answers.{walked, writtenStruct, written, storeColumns}
 use Rattle.slp.specs.Outcomes.{keepOf, MaskOutcome, WriteOutcome}
 
 pub mask-outcome : {ids mask scratch ma sa : List ℕ} {keep : Rollbacks} {k number : ℕ} {answer : Masked} →
-    keep ≡ keepOf k → rollback.Outcome ids keep mask scratch answer ma sa → number ≡ rollback.numberOf answer →
+    keep ≡ keepOf k → rollback.RollbackOutcome ids keep mask scratch answer ma sa → number ≡ rollback.maskNumbers answer .number →
     MaskOutcome ids k mask scratch number ma sa
-mask-outcome {ids} {mask} {scratch} {keep = keep} kept o n = record {
-  number-is = n ∙ ap rollback.numberOf (o .answer-is);
-  mask-is = o .mask-is ∙ ap (λ a. rollback.maskAfter a keep ids mask) (o .answer-is) ∙ ap (λ q. rollback.maskAfter (rollback.answerOf ids (length mask) (length scratch)) q ids mask) kept;
-  scratch-is = o .scratch-is ∙ ap (λ a. rollback.scratchAfter a ids scratch) (o .answer-is);
-}
+mask-outcome {ids} {mask} {scratch} {keep = keep} {answer = answer} kept o n =
+    let same = same-answer answer (rollback.answerOf ids (length mask) (length scratch)) (o .answer-is) in
+    record {
+      number-is = n ∙ ap (λ (m : rollback.MaskNumbers). m .number) (o .answer-is);
+      mask-is = o .mask-is ∙ ap (λ a. rollback.maskAfter a keep ids mask) same ∙ ap (λ q. rollback.maskAfter (rollback.answerOf ids (length mask) (length scratch)) q ids mask) kept;
+      scratch-is = o .scratch-is ∙ ap (λ a. rollback.scratchAfter a ids scratch) same;
+    }
 
 pub write-outcome : {g : Game} {s : Stores} {out out′ : List ℕ} {w : Written} {r : SlpWritten} →
     write.Outcome g s out w out′ → r ≡ written w → WriteOutcome g s out r out′
-write-outcome o n = record { answer-is = n ∙ ap written (o .answer-is); out-is = o .out-is }
+write-outcome o n = record { answer-is = n ∙ ap writtenStruct (o .answer-is); out-is = o .out-is }
 
 pub walk-done : {events stray place mark : ℕ} {whole : Bool} {w : Walked} →
     mark ≡ cond whole 1 0 → w ≡ Done events stray whole place →
     _≡_ {A = SlpWalked} (record { refused = 0; whole = mark; offset = 0; events = events; stray = stray; place = place }) (walked w)
 walk-done {events} {stray} {place} m e = ap (λ n. record { refused = 0; whole = n; offset = 0; events = events; stray = stray; place = place }) m ∙ sym (ap walked e)
+
+-- ---- families by the number of their store: where it is none of the first seven
+pub last-family : (n : ℕ) → (n ≡ 0 → ⊥) × (n ≡ 1 → ⊥) × (n ≡ 2 → ⊥) × (n ≡ 3 → ⊥) × (n ≡ 4 → ⊥) × (n ≡ 5 → ⊥) × (n ≡ 6 → ⊥) → StadiumTransformation ≡ getD families n StadiumTransformation
+last-family zero h = absurd (h .0 refl)
+last-family (suc zero) h = absurd (h .1 refl)
+last-family (suc (suc zero)) h = absurd (h .2 refl)
+last-family (suc (suc (suc zero))) h = absurd (h .3 refl)
+last-family (suc (suc (suc (suc zero)))) h = absurd (h .4 refl)
+last-family (suc (suc (suc (suc (suc zero))))) h = absurd (h .5 refl)
+last-family (suc (suc (suc (suc (suc (suc zero)))))) h = absurd (h .6 refl)
+last-family (suc (suc (suc (suc (suc (suc (suc zero))))))) h = refl
+last-family (suc (suc (suc (suc (suc (suc (suc (suc n)))))))) h = refl
+
+pub no-columns : (v : Version) (n : ℕ) → 7 < n → 0 ≡ storeColumns v n
+no-columns v n h = rw (lt-ltb 7 n h)
+
+pub some-columns : (v : Version) (n k : ℕ) (family : Family) → n ≤ 7 → family ≡ getD families n StadiumTransformation → k ≡ length (widthsOf family v) → k ≡ storeColumns v n
+some-columns v n k family h f e = rw (le-ltb 7 n h, ← f) e

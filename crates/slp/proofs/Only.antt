@@ -1,11 +1,11 @@
 -- No second outcome: what an exported call answers and what it leaves in the lent bytes follow from its inputs, on a refusal too.
--- The reader's two calls answer by an equation, which leaves one answer.
+-- The reader's calls, the row calls and slp_columns answer by an equation, which leaves one answer.
 -- Assumes nothing.
 use Prim.Native.Nat.{ℕ}
 use mathlib.Core.Path.{_≡_, sym, _∙_}
 use mathlib.Core.List.{List}
-use Rattle.ser.specs.Write.{Stores}
-use Rattle.ser.specs.declared.game.Game.{Game}
+use Rattle.game.specs.Stores.{Stores}
+use Rattle.game.specs.declared.Game.{Game}
 use Rattle.slp.specs.declared.answers.SlpWritten.{SlpWritten}
 use Rattle.slp.specs.Outcomes.{MaskOutcome, WriteOutcome}
 

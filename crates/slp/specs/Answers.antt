@@ -1,10 +1,19 @@
 -- The answers of the calls as structs of numbers.
 -- Assumes nothing.
-use Rattle.de.specs.Numbers.{StepNumbers, stepNumbers, WalkNumbers, walkNumbers}
-use Rattle.de.specs.declared.Step.{Step}
+use Prim.Native.Nat.{ℕ}
+use mathlib.Core.Bool.{cond}
+use lib.Dec.{ltb}
+use lib.ListN.{length, getD}
+use Rattle.format.specs.declared.version.Version.{Version}
+use Rattle.layout.specs.Columns.{widthsOf}
+use Rattle.layout.specs.declared.columns.Family.the-variants.{StadiumTransformation}
+use Rattle.game.specs.Stores.{families}
+use Rattle.head.specs.Numbers.{StepNumbers, stepNumbers}
+use Rattle.de.specs.Numbers.{WalkNumbers, walkNumbers}
+use Rattle.head.specs.declared.Step.{Step}
 use Rattle.de.specs.declared.Walked.{Walked}
-use Rattle.ser.specs.declared.game.Written.{Written}
-use Rattle.ser.specs.declared.game.Written.the-variants.{File, Refused}
+use Rattle.ser.specs.declared.written.Written.{Written}
+use Rattle.ser.specs.Write.{WrittenNumbers, writtenNumbers}
 use Rattle.slp.specs.declared.answers.SlpStep.{SlpStep}
 use Rattle.slp.specs.declared.answers.SlpWalked.{SlpWalked}
 use Rattle.slp.specs.declared.answers.SlpWritten.{SlpWritten}
@@ -21,6 +30,12 @@ walkStruct n = record { refused = n .number; whole = n .whole; offset = n .offse
 abbrev pub walked : Walked → SlpWalked
 walked w = walkStruct (walkNumbers w)
 
+abbrev pub writtenStruct : WrittenNumbers → SlpWritten
+writtenStruct n = record { refused = n .number; len = n .len }
+
 abbrev pub written : Written → SlpWritten
-written (File n) = record { refused = 0; len = n }
-written (Refused number) = record { refused = number; len = 0 }
+written w = writtenStruct (writtenNumbers w)
+
+-- how many columns a family's store has; the families are numbered by their stores
+abbrev pub storeColumns : Version → ℕ → ℕ
+storeColumns v family = cond (ltb 7 family) 0 (length (widthsOf (getD families family StadiumTransformation) v))

@@ -6,11 +6,12 @@ use mathlib.Core.Bool.{cond}
 use mathlib.Core.List.{List}
 use lib.ListN.{length}
 use Rattle.format.specs.Mark.{yes}
-use Rattle.rollback.specs.Mask.{answerOf, numberOf, maskAfter, scratchAfter}
+use Rattle.rollback.specs.Mask.{answerOf, maskNumbers, maskAfter, scratchAfter}
 use Rattle.rollback.specs.declared.frame.Rollbacks.{Rollbacks}
 use Rattle.rollback.specs.declared.frame.Rollbacks.the-variants.{ExceptFirst, ExceptLast}
-use Rattle.ser.specs.Write.{Stores, answered, left, refusal, file}
-use Rattle.ser.specs.declared.game.Game.{Game}
+use Rattle.game.specs.Stores.{Stores}
+use Rattle.ser.specs.Write.{answered, left, refusal, file}
+use Rattle.game.specs.declared.Game.{Game}
 use Rattle.slp.specs.declared.answers.SlpWritten.{SlpWritten}
 use Rattle.slp.specs.Answers.{written}
 
@@ -19,7 +20,7 @@ abbrev pub keepOf : ℕ → Rollbacks
 keepOf keep = cond (yes keep) ExceptLast ExceptFirst
 
 pub record MaskOutcome (ids : List ℕ) (keep : ℕ) (mask scratch : List ℕ) (number : ℕ) (mask-after scratch-after : List ℕ) : Type 0 where
-  pub number-is : number ≡ numberOf (answerOf ids (length mask) (length scratch))
+  pub number-is : number ≡ maskNumbers (answerOf ids (length mask) (length scratch)) .number
   pub mask-is : mask-after ≡ maskAfter (answerOf ids (length mask) (length scratch)) (keepOf keep) ids mask
   pub scratch-is : scratch-after ≡ scratchAfter (answerOf ids (length mask) (length scratch)) ids scratch
 

@@ -2,9 +2,9 @@
 ghost use mathlib.Core.Path.{_≡_};
 ghost use mathlib.Core.Bool.{cond};
 ghost use Rattle.slp.specs.Answers.{stepped, walked, written};
-use de::Step;
 use de::Walked;
-use ser::game::Written;
+use head::Step;
+use ser::written::Written;
 
 // What stands at a place: kind 0 is an event, 1 the end of the data, 2 a cut, 3 a refusal.
 #[repr(C)]

@@ -1,8 +1,8 @@
 // Frame rows, as their crate gives them.
 ghost use mathlib.Core.Path.{_≡_};
-ghost use Rattle.frames.specs.Stores.{cells, offsets, lent};
+ghost use Rattle.game.specs.Stores.{cells, offsets, lent};
 ghost use Rattle.transpose.specs.Answers.{frameRow, preRow, postRow, itemRow, fodPlatformRow, dreamlandWhispyRow, stadiumTransformationRow};
-use frames::input::Frames;
+use game::frames::Frames;
 use transpose::frame::FrameRow;
 use transpose::records::DreamlandWhispyRow;
 use transpose::records::FodPlatformRow;
@@ -30,7 +30,11 @@ pub extern "C" fn slp_frame_row(
     presence: &[u8],
     index: usize,
 ) -> FrameRow
-    ensures { λ r. ⌜ r ≡ frameRow f (lent (cells (now (ids .entry)) (now (starts .entry)) (now (pres .entry)) (now (posts .entry)) (now (ends .entry)) (now (items .entry)) (now (fods .entry)) (now (whispys .entry)) (now (stadiums .entry))) (offsets (now («item_offsets» .entry)) (now («fod_offsets» .entry)) (now («whispy_offsets» .entry)) (now («stadium_offsets» .entry))) (now (presence .entry))) index ⌝ }
+    ensures { λ r. ⌜ r ≡ frameRow f (lent
+        (cells (now (ids .entry)) (now (starts .entry)) (now (pres .entry)) (now (posts .entry)) (now (ends .entry))
+        (now (items .entry)) (now (fods .entry)) (now (whispys .entry)) (now (stadiums .entry)))
+        (offsets (now («item_offsets» .entry)) (now («fod_offsets» .entry)) (now («whispy_offsets» .entry)) (now («stadium_offsets» .entry)))
+        (now (presence .entry))) index ⌝ }
 {
     transpose::frame::frame_row(
         f,
@@ -72,7 +76,11 @@ pub extern "C" fn slp_pre_row(
     slot: usize,
     index: usize,
 ) -> PreRow
-    ensures { λ r. ⌜ r ≡ preRow f (lent (cells (now (ids .entry)) (now (starts .entry)) (now (pres .entry)) (now (posts .entry)) (now (ends .entry)) (now (items .entry)) (now (fods .entry)) (now (whispys .entry)) (now (stadiums .entry))) (offsets (now («item_offsets» .entry)) (now («fod_offsets» .entry)) (now («whispy_offsets» .entry)) (now («stadium_offsets» .entry))) (now (presence .entry))) slot index ⌝ }
+    ensures { λ r. ⌜ r ≡ preRow f (lent
+        (cells (now (ids .entry)) (now (starts .entry)) (now (pres .entry)) (now (posts .entry)) (now (ends .entry))
+        (now (items .entry)) (now (fods .entry)) (now (whispys .entry)) (now (stadiums .entry)))
+        (offsets (now («item_offsets» .entry)) (now («fod_offsets» .entry)) (now («whispy_offsets» .entry)) (now («stadium_offsets» .entry)))
+        (now (presence .entry))) slot index ⌝ }
 {
     transpose::records::pre_row(
         f,
@@ -115,7 +123,11 @@ pub extern "C" fn slp_post_row(
     slot: usize,
     index: usize,
 ) -> PostRow
-    ensures { λ r. ⌜ r ≡ postRow f (lent (cells (now (ids .entry)) (now (starts .entry)) (now (pres .entry)) (now (posts .entry)) (now (ends .entry)) (now (items .entry)) (now (fods .entry)) (now (whispys .entry)) (now (stadiums .entry))) (offsets (now («item_offsets» .entry)) (now («fod_offsets» .entry)) (now («whispy_offsets» .entry)) (now («stadium_offsets» .entry))) (now (presence .entry))) slot index ⌝ }
+    ensures { λ r. ⌜ r ≡ postRow f (lent
+        (cells (now (ids .entry)) (now (starts .entry)) (now (pres .entry)) (now (posts .entry)) (now (ends .entry))
+        (now (items .entry)) (now (fods .entry)) (now (whispys .entry)) (now (stadiums .entry)))
+        (offsets (now («item_offsets» .entry)) (now («fod_offsets» .entry)) (now («whispy_offsets» .entry)) (now («stadium_offsets» .entry)))
+        (now (presence .entry))) slot index ⌝ }
 {
     transpose::records::post_row(
         f,
@@ -157,7 +169,11 @@ pub extern "C" fn slp_item_row(
     presence: &[u8],
     index: usize,
 ) -> ItemRow
-    ensures { λ r. ⌜ r ≡ itemRow f (lent (cells (now (ids .entry)) (now (starts .entry)) (now (pres .entry)) (now (posts .entry)) (now (ends .entry)) (now (items .entry)) (now (fods .entry)) (now (whispys .entry)) (now (stadiums .entry))) (offsets (now («item_offsets» .entry)) (now («fod_offsets» .entry)) (now («whispy_offsets» .entry)) (now («stadium_offsets» .entry))) (now (presence .entry))) index ⌝ }
+    ensures { λ r. ⌜ r ≡ itemRow f (lent
+        (cells (now (ids .entry)) (now (starts .entry)) (now (pres .entry)) (now (posts .entry)) (now (ends .entry))
+        (now (items .entry)) (now (fods .entry)) (now (whispys .entry)) (now (stadiums .entry)))
+        (offsets (now («item_offsets» .entry)) (now («fod_offsets» .entry)) (now («whispy_offsets» .entry)) (now («stadium_offsets» .entry)))
+        (now (presence .entry))) index ⌝ }
 {
     transpose::records::item_row(
         f,
@@ -198,7 +214,11 @@ pub extern "C" fn slp_fod_platform_row(
     presence: &[u8],
     index: usize,
 ) -> FodPlatformRow
-    ensures { λ r. ⌜ r ≡ fodPlatformRow f (lent (cells (now (ids .entry)) (now (starts .entry)) (now (pres .entry)) (now (posts .entry)) (now (ends .entry)) (now (items .entry)) (now (fods .entry)) (now (whispys .entry)) (now (stadiums .entry))) (offsets (now («item_offsets» .entry)) (now («fod_offsets» .entry)) (now («whispy_offsets» .entry)) (now («stadium_offsets» .entry))) (now (presence .entry))) index ⌝ }
+    ensures { λ r. ⌜ r ≡ fodPlatformRow f (lent
+        (cells (now (ids .entry)) (now (starts .entry)) (now (pres .entry)) (now (posts .entry)) (now (ends .entry))
+        (now (items .entry)) (now (fods .entry)) (now (whispys .entry)) (now (stadiums .entry)))
+        (offsets (now («item_offsets» .entry)) (now («fod_offsets» .entry)) (now («whispy_offsets» .entry)) (now («stadium_offsets» .entry)))
+        (now (presence .entry))) index ⌝ }
 {
     transpose::records::fod_platform_row(
         f,
@@ -239,7 +259,11 @@ pub extern "C" fn slp_dreamland_whispy_row(
     presence: &[u8],
     index: usize,
 ) -> DreamlandWhispyRow
-    ensures { λ r. ⌜ r ≡ dreamlandWhispyRow f (lent (cells (now (ids .entry)) (now (starts .entry)) (now (pres .entry)) (now (posts .entry)) (now (ends .entry)) (now (items .entry)) (now (fods .entry)) (now (whispys .entry)) (now (stadiums .entry))) (offsets (now («item_offsets» .entry)) (now («fod_offsets» .entry)) (now («whispy_offsets» .entry)) (now («stadium_offsets» .entry))) (now (presence .entry))) index ⌝ }
+    ensures { λ r. ⌜ r ≡ dreamlandWhispyRow f (lent
+        (cells (now (ids .entry)) (now (starts .entry)) (now (pres .entry)) (now (posts .entry)) (now (ends .entry))
+        (now (items .entry)) (now (fods .entry)) (now (whispys .entry)) (now (stadiums .entry)))
+        (offsets (now («item_offsets» .entry)) (now («fod_offsets» .entry)) (now («whispy_offsets» .entry)) (now («stadium_offsets» .entry)))
+        (now (presence .entry))) index ⌝ }
 {
     transpose::records::dreamland_whispy_row(
         f,
@@ -280,7 +304,11 @@ pub extern "C" fn slp_stadium_transformation_row(
     presence: &[u8],
     index: usize,
 ) -> StadiumTransformationRow
-    ensures { λ r. ⌜ r ≡ stadiumTransformationRow f (lent (cells (now (ids .entry)) (now (starts .entry)) (now (pres .entry)) (now (posts .entry)) (now (ends .entry)) (now (items .entry)) (now (fods .entry)) (now (whispys .entry)) (now (stadiums .entry))) (offsets (now («item_offsets» .entry)) (now («fod_offsets» .entry)) (now («whispy_offsets» .entry)) (now («stadium_offsets» .entry))) (now (presence .entry))) index ⌝ }
+    ensures { λ r. ⌜ r ≡ stadiumTransformationRow f (lent
+        (cells (now (ids .entry)) (now (starts .entry)) (now (pres .entry)) (now (posts .entry)) (now (ends .entry))
+        (now (items .entry)) (now (fods .entry)) (now (whispys .entry)) (now (stadiums .entry)))
+        (offsets (now («item_offsets» .entry)) (now («fod_offsets» .entry)) (now («whispy_offsets» .entry)) (now («stadium_offsets» .entry)))
+        (now (presence .entry))) index ⌝ }
 {
     transpose::records::stadium_transformation_row(
         f,

@@ -1,6 +1,6 @@
 // The rollback masks.
 ghost use mathlib.Core.Path.{_≡_};
-ghost use Rattle.rollback.specs.Mask.{numberOf};
+ghost use Rattle.rollback.specs.Mask.{maskNumbers};
 ghost use Rattle.slp.specs.Outcomes.{keepOf, MaskOutcome};
 use rollback::frame::Masked;
 use rollback::frame::Rollbacks;
@@ -17,7 +17,7 @@ fn rollbacks_of(keep: u8) -> Rollbacks
 }
 
 fn number(m: Masked) -> u8
-    ensures { λ r. ⌜ r ≡ numberOf m ⌝ }
+    ensures { λ r. ⌜ r ≡ maskNumbers m .number ⌝ }
 {
     match m {
         Masked::Written(_) => 0,

@@ -1,6 +1,6 @@
 // The reader.
 ghost use mathlib.Core.Path.{_≡_};
-ghost use Rattle.de.specs.Step.{stepOf};
+ghost use Rattle.head.specs.Step.{stepOf};
 ghost use Rattle.de.specs.Walk.{walkOf};
 ghost use Rattle.slp.specs.Answers.{stepped, walked};
 use super::answers::SlpStep;

@@ -1,10 +1,9 @@
 // The writer.
-ghost use Rattle.frames.specs.Stores.{cells, offsets, lent};
-ghost use Rattle.ser.specs.Write.{stores};
+ghost use Rattle.game.specs.Stores.{cells, offsets, lent, stores};
 ghost use Rattle.slp.specs.Outcomes.{WriteOutcome};
 use super::answers::SlpWritten;
 use super::answers::written_numbers;
-use ser::game::Game;
+use game::Game;
 
 #[no_mangle]
 pub extern "C" fn slp_write(
@@ -28,7 +27,11 @@ pub extern "C" fn slp_write(
     codes: &[u8],
     metadata: &[u8],
 ) -> SlpWritten
-    ensures { λ r. ⌜ WriteOutcome g (stores (lent (cells (now (ids .entry)) (now (starts .entry)) (now (pres .entry)) (now (posts .entry)) (now (ends .entry)) (now (items .entry)) (now (fods .entry)) (now (whispys .entry)) (now (stadiums .entry))) (offsets (now («item_offsets» .entry)) (now («fod_offsets» .entry)) (now («whispy_offsets» .entry)) (now («stadium_offsets» .entry))) (now (presence .entry))) (now (template .entry)) (now (codes .entry)) (now (metadata .entry))) (now (out .entry)) r (now (out .exit)) ⌝ }
+    ensures { λ r. ⌜ WriteOutcome g (stores (lent
+        (cells (now (ids .entry)) (now (starts .entry)) (now (pres .entry)) (now (posts .entry)) (now (ends .entry))
+        (now (items .entry)) (now (fods .entry)) (now (whispys .entry)) (now (stadiums .entry)))
+        (offsets (now («item_offsets» .entry)) (now («fod_offsets» .entry)) (now («whispy_offsets» .entry)) (now («stadium_offsets» .entry)))
+        (now (presence .entry))) (now (template .entry)) (now (codes .entry)) (now (metadata .entry))) (now (out .entry)) r (now (out .exit)) ⌝ }
 {
     written_numbers(ser::write::write(
         out,

@@ -1,22 +1,23 @@
 -- The laws of `spread`: parts in a row, parts from their ends, and records of rows that follow each other.
 -- Assumes nothing.
 use mathlib.Core.Path.{_≡_, refl, sym, ap, ap₂, _∙_}
-use mathlib.Core.Bool.{Bool, true, false}
-use mathlib.Core.List.{List, [], _∷_, _++_, append-assoc, append-nil}
+use mathlib.Core.Bool.{Bool}
+use mathlib.Core.List.{List, [], _++_, append-assoc, append-nil}
 use Prim.Native.Nat.{ℕ, zero, suc, _+_, _-_, _*_, _≤_, _<_}
-use native.Mathlib.Nat.{add-zero, add-assoc, sub-zero, suc-mul, zero-mul, sub-eq-zero-of-le, mul-le-mul-right}
+use native.Mathlib.Nat.{add-zero, sub-zero, suc-mul, zero-mul, sub-eq-zero-of-le, mul-le-mul-right}
 use native.Mathlib.Numerals.{add-one}
 use native.Mathlib.Omega.{arith}
 use lib.ListN.{length, getD, take, length-append}
 use lib.Seq.{take-length}
 use Rattle.wire.specs.Wire.{be, splice, ranged, Wrote}
-use Rattle.wire.proofs.Laws.{length-splice, splice-append, splice-splice, length-be, length-ranged-below}
-use Rattle.wire.proofs.Writers.{Behind, behind-start, behind-step, wrote-length}
+use Rattle.wire.proofs.Laws.{length-splice, splice-append, splice-splice, length-ranged-below}
+use Rattle.wire.proofs.Writers.{behind-start, behind-step, wrote-length}
 use Rattle.layout.specs.Columns.{sum}
 use Rattle.record.specs.declared.Head.{Head}
-use Rattle.record.specs.Record.{cellsBytes, headBytes, recordOf, InStore}
-use Rattle.record.proofs.Laws.{length-cells, cells-snoc, sum-snoc, head-length, head-room, record-parts, length-record, Turn}
-use Rattle.spread.specs.Spread.{spread, Rooms, Sown, Strewn, cellAt, headOn, headAt, recordAt}
+use Rattle.record.specs.Record.{cellsBytes}
+use Rattle.record.specs.Inner.{headBytes}
+use Rattle.record.proofs.Laws.{length-cells, cells-snoc, head-length, head-room, record-parts, length-record, Turn}
+use Rattle.spread.specs.Inner.{spread, Rooms, Sown, Strewn, cellAt, headOn, headAt, recordAt}
 
 -- ---- a part before them all
 splice-spread : (xs : List ℕ) (at : ℕ) (ys : List ℕ) (p step : ℕ) (f : ℕ → List ℕ) (i n : ℕ) → at + length ys ≤ p

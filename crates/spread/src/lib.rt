@@ -3,8 +3,8 @@ ghost use mathlib.Core.Path.{_≡_};
 ghost use Prim.Native.Nat.{_+_, _*_, _≤_};
 ghost use lib.ListN.{length};
 ghost use Rattle.layout.specs.Columns.{sum};
-ghost use Rattle.record.specs.Record.{headBytes, InStore};
-ghost use Rattle.spread.specs.Spread.{Rooms, Sown, Strewn, cellAt, headAt, recordAt};
+ghost use Rattle.record.specs.Inner.{headBytes, InStore};
+ghost use Rattle.spread.specs.Inner.{Rooms, Sown, Strewn, cellAt, headAt, recordAt};
 use record::Head;
 use record::head_len;
 use record::put_head;
@@ -63,7 +63,8 @@ pub fn put_records(
         × InStore (now widths) (length (now cells)) stride (first + 7)
         × (i + 8 ≤ length (now ids))
         × Rooms (now out) at step (recordAt h (now ids) i (now widths) (now cells) stride first) ⌝ }
-    ensures { λ r. ⌜ Sown (now (out .entry)) (now (out .exit)) at r step (recordAt h (now (ids .entry)) i (now (widths .entry)) (now (cells .entry)) stride first) ⌝ }
+    ensures { λ r. ⌜ Sown (now (out .entry)) (now (out .exit)) at r step
+        (recordAt h (now (ids .entry)) i (now (widths .entry)) (now (cells .entry)) stride first) ⌝ }
 {
     let end = at + (head_len(h) + bytes);
     let mut q = end;

@@ -5,7 +5,8 @@ use mathlib.Core.Bool.{true, false}
 use mathlib.Core.List.{[], _∷_, map}
 use Rattle.format.specs.Version.{version, above, gteOf}
 use Rattle.start.specs.Length.{reached, lengthOf}
-use Rattle.start.specs.Refusal.{oneOf, missing, tooLong, fieldMissing, typeAbove2, cpuWithoutLevel, textTooLong, badSeat, badStart}
+use Rattle.format.specs.Refusal.{oneOf}
+use Rattle.start.specs.Refusal.{blockWrong, missing, tooLong, fieldMissing, typeAbove2, cpuWithoutLevel, textTooLong, badSeat, badStart}
 use Rattle.start.proofs.Samples.{netplay, player, nobody, start}
 
 lengths-by-version : map lengthOf
@@ -22,6 +23,11 @@ lengths-by-version : map lengthOf
     ≡ 320 ∷ 320 ∷ 352 ∷ 352 ∷ 416 ∷ 416 ∷ 417 ∷ 417 ∷ 418 ∷ 418 ∷ 420 ∷ 420 ∷ 584 ∷ 584 ∷ 700 ∷ 700 ∷ 701 ∷ 701 ∷ 760 ∷ 760 ∷ []
 unfolding lengthOf reached gteOf above
 lengths-by-version = refl
+
+-- a block just too short, just long enough, just short enough and too long
+blocks : map (blockWrong (version 0 1 0)) (319 ∷ 320 ∷ 65535 ∷ 65536 ∷ []) ≡ true ∷ false ∷ false ∷ true ∷ []
+unfolding blockWrong lengthOf reached gteOf above
+blocks = refl
 
 -- texts at their limits; a CPU with a level; nobody
 good-seats : map (badSeat (version 3 18 0)) (player 0 0 0 1 1 16 (netplay 1 1 30 9 28) ∷ player 1 0 1 1 1 0 (netplay 1 1 0 0 0) ∷ player 2 1 0 1 1 0 (netplay 1 1 0 0 0) ∷ nobody ∷ [])

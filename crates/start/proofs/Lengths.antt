@@ -8,32 +8,33 @@ use native.Mathlib.Omega.{arith}
 use lib.Dec.{leb}
 use lib.ListN.{getD}
 use borrow.Author.Tests.{leb-true}
-use Rattle.format.specs.Version.{gteOf}
 use Rattle.format.specs.declared.version.Version.{Version}
-use Rattle.start.specs.Length.{Since, since, lengths, reached, lengthOf}
+use Rattle.start.specs.declared.gate.Gate.{Gate}
+use Rattle.start.specs.Gate.{gate, gates, reaches}
+use Rattle.start.specs.Length.{reached, lengthOf}
 
--- ---- an entry of the table is reached, or passed; `on` is the code's answer to its test
-module _ (v : Version) (major minor : ℕ) (on : Bool) (asked : on ≡ gteOf v major minor) where
-  pub is-reached : on ≡ true → (n : ℕ) (es : List Since) → n ≡ reached v (since major minor n ∷ es)
+-- ---- a gate is reached, or passed; `on` is the code's answer to its test
+module _ (v : Version) (g : Gate) (gs : List Gate) where
+  pub is-reached : (n : ℕ) → n ≡ g .bytes → (on : Bool) → on ≡ reaches v g → on ≡ true → n ≡ reached v (g ∷ gs)
   unfolding reached
-  is-reached e n es = rw (sym asked ∙ e)
+  is-reached n h on asked e = rw (sym asked ∙ e) h
 
-  pub is-passed : on ≡ false → (n r : ℕ) (es : List Since) → r ≡ reached v es → r ≡ reached v (since major minor n ∷ es)
+  pub is-passed : (on : Bool) → on ≡ reaches v g → on ≡ false → (r : ℕ) → r ≡ reached v gs → r ≡ reached v (g ∷ gs)
   unfolding reached
-  is-passed e n r es h = rw (sym asked ∙ e) h
+  is-passed on asked e r h = rw (sym asked ∙ e) h
 
 pub before-all : (v : Version) → 320 ≡ reached v []
 unfolding reached
 before-all v = refl
 
-pub ruleset entries = (is-reached, is-passed, before-all)
+pub ruleset gates-asked = (is-reached, is-passed, before-all)
 
--- ---- a version that reaches an entry has a block of the entry's length at least, and every version one of 320
+-- ---- a version that reaches a gate has a block of the gate's length at least, and every version one of 320
 
 -- the lengths fall from n to 320
-abbrev falls : ℕ → List Since → Bool
+abbrev falls : ℕ → List Gate → Bool
 falls n [] = leb 320 n
-falls n (e ∷ es) = leb (e .bytes) n && falls (e .bytes) es
+falls n (g ∷ gs) = leb (g .bytes) n && falls (g .bytes) gs
 
 both : (a b : Bool) → a && b ≡ true → (a ≡ true) × (b ≡ true)
 both true b e = (refl, e)
@@ -43,41 +44,41 @@ either-way : (b : Bool) (m x y : ℕ) → m ≤ x → m ≤ y → m ≤ cond b x
 either-way true m x y p q = p
 either-way false m x y p q = q
 
-abbrev entry : List Since → ℕ → Since
-entry es k = getD es k (since 0 0 0)
+abbrev nth : List Gate → ℕ → Gate
+nth gs k = getD gs k (gate 0 0 0)
 
 module _ (v : Version) where
-  floor : (n : ℕ) (es : List Since) → falls n es ≡ true → 320 ≤ n
+  floor : (n : ℕ) (gs : List Gate) → falls n gs ≡ true → 320 ≤ n
   floor n [] f = leb-true 320 n f
-  floor n (e ∷ es) f = let b = both (leb (e .bytes) n) _ f in omega (arith, leb-true (e .bytes) n (b .0), floor (e .bytes) es (b .1))
+  floor n (g ∷ gs) f = let b = both (leb (g .bytes) n) _ f in omega (arith, leb-true (g .bytes) n (b .0), floor (g .bytes) gs (b .1))
 
-  ceiling : (n : ℕ) (es : List Since) → falls n es ≡ true → (k : ℕ) → entry es k .bytes ≤ n
+  ceiling : (n : ℕ) (gs : List Gate) → falls n gs ≡ true → (k : ℕ) → nth gs k .bytes ≤ n
   ceiling n [] f k = omega arith
-  ceiling n (e ∷ es) f zero = leb-true (e .bytes) n (both (leb (e .bytes) n) _ f .0)
-  ceiling n (e ∷ es) f (suc k) =
-      let b = both (leb (e .bytes) n) _ f in
-      omega (arith, leb-true (e .bytes) n (b .0), ceiling (e .bytes) es (b .1) k)
+  ceiling n (g ∷ gs) f zero = leb-true (g .bytes) n (both (leb (g .bytes) n) _ f .0)
+  ceiling n (g ∷ gs) f (suc k) =
+      let b = both (leb (g .bytes) n) _ f in
+      omega (arith, leb-true (g .bytes) n (b .0), ceiling (g .bytes) gs (b .1) k)
 
-  from-320 : (n : ℕ) (es : List Since) → falls n es ≡ true → 320 ≤ reached v es
+  from-320 : (n : ℕ) (gs : List Gate) → falls n gs ≡ true → 320 ≤ reached v gs
   unfolding reached
   from-320 n [] f = omega arith
-  from-320 n (e ∷ es) f =
-      let rest = both (leb (e .bytes) n) _ f .1 in
-      either-way (gteOf v (e .major) (e .minor)) _ _ _ (floor (e .bytes) es rest) (from-320 (e .bytes) es rest)
+  from-320 n (g ∷ gs) f =
+      let rest = both (leb (g .bytes) n) _ f .1 in
+      either-way (reaches v g) _ _ _ (floor (g .bytes) gs rest) (from-320 (g .bytes) gs rest)
 
-  from-entry : (n : ℕ) (es : List Since) → falls n es ≡ true → (k : ℕ) → gteOf v (entry es k .major) (entry es k .minor) ≡ true → entry es k .bytes ≤ reached v es
+  from-gate : (n : ℕ) (gs : List Gate) → falls n gs ≡ true → (k : ℕ) → reaches v (nth gs k) ≡ true → nth gs k .bytes ≤ reached v gs
   unfolding reached
-  from-entry n [] f k on = omega arith
-  from-entry n (e ∷ es) f zero on = rw on (omega arith)
-  from-entry n (e ∷ es) f (suc k) on =
-      let rest = both (leb (e .bytes) n) _ f .1 in
-      either-way (gteOf v (e .major) (e .minor)) _ _ _ (ceiling (e .bytes) es rest k) (from-entry (e .bytes) es rest k on)
+  from-gate n [] f k on = omega arith
+  from-gate n (g ∷ gs) f zero on = rw on (omega arith)
+  from-gate n (g ∷ gs) f (suc k) on =
+      let rest = both (leb (g .bytes) n) _ f .1 in
+      either-way (reaches v g) _ _ _ (ceiling (g .bytes) gs rest k) (from-gate (g .bytes) gs rest k on)
 
 pub at-least : (v : Version) → 320 ≤ lengthOf v
 unfolding lengthOf
-at-least v = from-320 v 760 lengths refl
+at-least v = from-320 v 760 gates refl
 
--- entry k of the table
-pub long-enough : (v : Version) (k : ℕ) → gteOf v (entry lengths k .major) (entry lengths k .minor) ≡ true → entry lengths k .bytes ≤ lengthOf v
+-- the gate at k
+pub long-enough : (v : Version) (k : ℕ) → reaches v (nth gates k) ≡ true → nth gates k .bytes ≤ lengthOf v
 unfolding lengthOf
-long-enough v k on = from-entry v 760 lengths refl k on
+long-enough v k on = from-gate v 760 gates refl k on

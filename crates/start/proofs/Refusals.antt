@@ -5,17 +5,36 @@ use mathlib.Core.Bool.{Bool, true, false, _&&_}
 use mathlib.Core.List.{List, [], _∷_, map}
 use Prim.Native.Nat.{ℕ, zero, suc, _+_, _≤_, _<_}
 use native.Mathlib.Numerals.{add-one}
+use native.Mathlib.Omega.{arith}
 use lib.Dec.{ltb, eqb}
 use lib.ListN.{length, getD, drop}
 use lib.Seq.{drop-cons}
 use borrow.Author.Tests.{ltb-false, lt-ltb, le-ltb, eq-eqb, ne-eqb}
-use Rattle.format.specs.Version.{gteOf}
 use Rattle.format.specs.declared.version.Version.{Version}
-use Rattle.format.proofs.Tests.{one-last, one-passed}
-use Rattle.start.specs.Refusal.{yes, oneOf, tooLong, textTooLong, badSeat, badStart}
-use Rattle.start.specs.declared.game.Text.{Text}
-use Rattle.start.specs.declared.game.Seat.{Seat}
-use Rattle.start.specs.declared.game.Start.{Start}
+use Rattle.format.proofs.Tests.{or-none, one-last, one-passed}
+use Rattle.format.specs.Mark.{yes}
+use Rattle.format.specs.Refusal.{oneOf}
+use Rattle.start.specs.declared.gate.Gate.{Gate}
+use Rattle.start.specs.Gate.{reaches, tagFrom, netplayFrom, suidFrom, matchFrom}
+use Rattle.start.specs.Length.{lengthOf}
+use Rattle.start.specs.Refusal.{blockWrong, tooLong, textTooLong, badSeat, badStart}
+use Rattle.game.specs.declared.start.Text.{Text}
+use Rattle.game.specs.declared.start.Seat.{Seat}
+use Rattle.game.specs.declared.start.Start.{Start}
+
+-- ---- the block's length; `l` is the code's
+
+pub block-short : (v : Version) (n l : ℕ) → l ≡ lengthOf v → n < l → true ≡ blockWrong v n
+unfolding blockWrong
+block-short v n l e h = rw (lt-ltb n (lengthOf v) (omega (arith, e)))
+
+pub block-else : (v : Version) (n l : ℕ) → l ≡ lengthOf v → l ≤ n → ltb 65535 n ≡ blockWrong v n
+unfolding blockWrong
+block-else v n l e h = rw (le-ltb n (lengthOf v) (omega (arith, e)))
+
+pub block-fits : (v : Version) (n : ℕ) → blockWrong v n ≡ false → (lengthOf v ≤ n) × (n ≤ 65535)
+unfolding blockWrong
+block-fits v n e = let (a, b) = or-none (ltb n (lengthOf v)) (ltb 65535 n) e in (ltb-false n (lengthOf v) a, ltb-false 65535 n b)
 
 -- ---- a list of tests, one by one; `on` is the code's answer to the first
 module _ (on b : Bool) (bs : List Bool) (asked : on ≡ b) where
@@ -60,16 +79,16 @@ unasked : (a b : Bool) → (a && b) ≡ false → a ≡ true → b ≡ false
 unasked true b e h = e
 unasked false b e h = cc
 
-pub short-text : (v : Version) (major minor limit : ℕ) (t : Text) → tooLong v major minor limit t ≡ false → gteOf v major minor ≡ true → t .len ≤ limit
+pub short-text : (v : Version) (g : Gate) (limit : ℕ) (t : Text) → tooLong v g limit t ≡ false → reaches v g ≡ true → t .len ≤ limit
 unfolding tooLong
-short-text v major minor limit t e on = ltb-false limit (t .len) (unasked (gteOf v major minor) (ltb limit (t .len)) e on)
+short-text v g limit t e on = ltb-false limit (t .len) (unasked (reaches v g) (ltb limit (t .len)) e on)
 
 -- the texts that v writes of a player
 pub record Short (v : Version) (p : Seat) : Type 0 where
-  pub tag : gteOf v 1 3 ≡ true → p .«name_tag» .len ≤ 16
-  pub name : gteOf v 3 9 ≡ true → p .netplay .name .len ≤ 30
-  pub code : gteOf v 3 9 ≡ true → p .netplay .code .len ≤ 9
-  pub suid : gteOf v 3 11 ≡ true → p .netplay .suid .len ≤ 28
+  pub tag : reaches v tagFrom ≡ true → p .«name_tag» .len ≤ 16
+  pub name : reaches v netplayFrom ≡ true → p .netplay .name .len ≤ 30
+  pub code : reaches v netplayFrom ≡ true → p .netplay .code .len ≤ 9
+  pub suid : reaches v suidFrom ≡ true → p .netplay .suid .len ≤ 28
 
 pub short-texts : (v : Version) (p : Seat) → textTooLong v p ≡ false → Short v p
 unfolding textTooLong
@@ -78,7 +97,7 @@ short-texts v p e =
     let b = one-passed _ _ (a .1) in
     let c = one-passed _ _ (b .1) in
     let d = one-passed _ _ (c .1) in
-    record { tag = short-text v 1 3 16 _ (a .0); name = short-text v 3 9 30 _ (b .0); code = short-text v 3 9 9 _ (c .0); suid = short-text v 3 11 28 _ (d .0) }
+    record { tag = short-text v tagFrom 16 _ (a .0); name = short-text v netplayFrom 30 _ (b .0); code = short-text v netplayFrom 9 _ (c .0); suid = short-text v suidFrom 28 _ (d .0) }
 
 pub seat-texts : (v : Version) (p : Seat) → badSeat v p ≡ false → yes (p .given) ≡ true → textTooLong v p ≡ false
 unfolding badSeat
@@ -101,7 +120,7 @@ none-past f (x ∷ xs) (suc n) e = none-past f xs n e
 pub none-later : {A : Type 0} (f : A → Bool) (xs : List A) (n : ℕ) → oneOf (map f (drop n xs)) ≡ false → oneOf (map f (drop (n + 1) xs)) ≡ false
 none-later f xs n e = rw add-one (none-past f xs n e)
 
-pub good-start : (v : Version) (s : Start) → badStart v s ≡ false → (oneOf (map (badSeat v) (s .seats)) ≡ false) × (tooLong v 3 14 50 (s .«match_info» .id) ≡ false)
+pub good-start : (v : Version) (s : Start) → badStart v s ≡ false → (oneOf (map (badSeat v) (s .seats)) ≡ false) × (tooLong v matchFrom 50 (s .«match_info» .id) ≡ false)
 unfolding badStart
 good-start v s e =
     let a = one-passed _ _ e in

@@ -3,10 +3,11 @@
 use Prim.Native.Nat.{ℕ}
 use mathlib.Core.List.{List, [], _∷_}
 use lib.ListN.{replicate}
-use Rattle.start.specs.declared.game.Text.{Text}
-use Rattle.start.specs.declared.game.Netplay.{Netplay}
-use Rattle.start.specs.declared.game.Seat.{Seat}
-use Rattle.start.specs.declared.game.Start.{Start}
+use Rattle.game.specs.Zero.{seatWith}
+use Rattle.game.specs.declared.start.Text.{Text}
+use Rattle.game.specs.declared.start.Netplay.{Netplay}
+use Rattle.game.specs.declared.start.Seat.{Seat}
+use Rattle.game.specs.declared.start.Start.{Start}
 
 -- n bytes, each 65
 abbrev pub letters : ℕ → Text
@@ -39,28 +40,9 @@ player kind team level ucf tag long net = record {
   netplay = net;
 }
 
--- nobody: what the fields hold does not count
+-- nobody: that his texts are too long does not count
 abbrev pub nobody : Seat
-nobody = record {
-  given = 0;
-  character = 0;
-  kind = 3;
-  stocks = 0;
-  costume = 0;
-  team = record { given = 0; color = 0; shade = 0 };
-  handicap = 0;
-  bitfield = 0;
-  «cpu_level» = record { given = 0; value = 0 };
-  «damage_start» = 0;
-  «damage_spawn» = 0;
-  «offense_ratio» = 0;
-  «defense_ratio» = 0;
-  «model_scale» = 0;
-  ucf = record { given = 0; «dash_back» = 0; «shield_drop» = 0 };
-  «name_tag_given» = 0;
-  «name_tag» = letters 17;
-  netplay = netplay 0 0 31 10 29;
-}
+nobody = seatWith (letters 31)
 
 -- a start with these seats, and all of its own fields by one mark; the length of the match id
 abbrev pub start : List Seat → ℕ → ℕ → Start

@@ -1,2 +1,4 @@
+pub mod Gate
 pub mod Length
 pub mod Refusal
+pub mod Block

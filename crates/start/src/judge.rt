@@ -1,27 +1,40 @@
-// Which starts are refused.
+// Which start blocks and which starts are refused.
 ghost use mathlib.Core.Path.{_≡_};
 ghost use mathlib.Core.List.{map};
-ghost use Rattle.start.specs.Refusal.{oneOf, missing, tooLong, fieldMissing, cpuWithoutLevel, textTooLong, badSeat, badStart};
-use super::game::Seat;
-use super::game::Start;
-use super::game::Text;
+ghost use Rattle.format.specs.Refusal.{oneOf};
+ghost use Rattle.start.specs.Refusal.{blockWrong, missing, tooLong, fieldMissing, cpuWithoutLevel, textTooLong, badSeat, badStart};
+use super::gate::Gate;
+use super::length::block_length;
 use format::version::Version;
+use game::start::Seat;
+use game::start::Start;
+use game::start::Text;
 
-// Whether a field that v writes is missing: from major.minor on its mark must say yes.
-fn is_missing(v: Version, major: u8, minor: u8, mark: u8) -> bool
-    ensures { λ r. ⌜ r ≡ missing v major minor mark ⌝ }
+// Refusal 8, of a block of so many bytes.
+pub fn block_wrong(v: Version, len: usize) -> bool
+    ensures { λ r. ⌜ r ≡ blockWrong v len ⌝ }
 {
-    if v.gte(major, minor) {
+    if len < block_length(v) {
+        return true;
+    }
+    65535 < len
+}
+
+// Whether a field that v writes is missing, as its mark says.
+fn is_missing(v: Version, g: Gate, mark: u8) -> bool
+    ensures { λ r. ⌜ r ≡ missing v g mark ⌝ }
+{
+    if g.reached(v) {
         return mark == 0;
     }
     false
 }
 
 // Whether a text that v writes has more bytes than its limit.
-fn is_too_long(v: Version, major: u8, minor: u8, limit: usize, t: Text) -> bool
-    ensures { λ r. ⌜ r ≡ tooLong v major minor limit t ⌝ }
+fn is_too_long(v: Version, g: Gate, limit: usize, t: Text) -> bool
+    ensures { λ r. ⌜ r ≡ tooLong v g limit t ⌝ }
 {
-    if v.gte(major, minor) {
+    if g.reached(v) {
         return limit < t.len;
     }
     false
@@ -30,16 +43,16 @@ fn is_too_long(v: Version, major: u8, minor: u8, limit: usize, t: Text) -> bool
 fn lacks_field(v: Version, p: Seat) -> bool
     ensures { λ r. ⌜ r ≡ fieldMissing v p ⌝ }
 {
-    if is_missing(v, 1, 0, p.ucf.given) {
+    if is_missing(v, Gate::UCF, p.ucf.given) {
         return true;
     }
-    if is_missing(v, 1, 3, p.name_tag_given) {
+    if is_missing(v, Gate::TAG, p.name_tag_given) {
         return true;
     }
-    if is_missing(v, 3, 9, p.netplay.given) {
+    if is_missing(v, Gate::NETPLAY, p.netplay.given) {
         return true;
     }
-    is_missing(v, 3, 11, p.netplay.suid_given)
+    is_missing(v, Gate::SUID, p.netplay.suid_given)
 }
 
 fn lacks_level(p: Seat) -> bool
@@ -55,16 +68,16 @@ fn has_long_text(v: Version, p: Seat) -> bool
     ensures { λ r. ⌜ r ≡ textTooLong v p ⌝ }
 {
     let netplay = p.netplay;
-    if is_too_long(v, 1, 3, 16, p.name_tag) {
+    if is_too_long(v, Gate::TAG, 16, p.name_tag) {
         return true;
     }
-    if is_too_long(v, 3, 9, 30, netplay.name) {
+    if is_too_long(v, Gate::NETPLAY, 30, netplay.name) {
         return true;
     }
-    if is_too_long(v, 3, 9, 9, netplay.code) {
+    if is_too_long(v, Gate::NETPLAY, 9, netplay.code) {
         return true;
     }
-    is_too_long(v, 3, 11, 28, netplay.suid)
+    is_too_long(v, Gate::SUID, 28, netplay.suid)
 }
 
 fn is_bad_seat(v: Version, p: Seat) -> bool
@@ -99,7 +112,7 @@ fn has_bad_seat(v: Version, seats: [Seat; 4]) -> bool
     false
 }
 
-// Whether a start is refused: a field that v writes is missing, a player type is above 2, a CPU has no level, or a text
+// Refusal 9: a field that v writes is missing, a player type is above 2, a CPU has no level, or a text
 // that v writes is too long.
 pub fn is_bad_start(v: Version, s: Start) -> bool
     ensures { λ r. ⌜ r ≡ badStart v s ⌝ }
@@ -109,20 +122,20 @@ pub fn is_bad_start(v: Version, s: Start) -> bool
     if has_bad_seat(v, seats) {
         return true;
     }
-    if is_missing(v, 1, 5, s.is_pal.given) {
+    if is_missing(v, Gate::PAL, s.is_pal.given) {
         return true;
     }
-    if is_missing(v, 2, 0, s.is_frozen_ps.given) {
+    if is_missing(v, Gate::FROZEN, s.is_frozen_ps.given) {
         return true;
     }
-    if is_missing(v, 3, 7, s.scene.given) {
+    if is_missing(v, Gate::SCENE, s.scene.given) {
         return true;
     }
-    if is_missing(v, 3, 12, s.language.given) {
+    if is_missing(v, Gate::LANGUAGE, s.language.given) {
         return true;
     }
-    if is_missing(v, 3, 14, s.match_info.given) {
+    if is_missing(v, Gate::MATCH, s.match_info.given) {
         return true;
     }
-    is_too_long(v, 3, 14, 50, game.id)
+    is_too_long(v, Gate::MATCH, 50, game.id)
 }

@@ -1,38 +1,39 @@
 // The start block's length.
 ghost use mathlib.Core.Path.{_≡_};
 ghost use Rattle.start.specs.Length.{lengthOf};
+use super::gate::Gate;
 use format::version::Version;
 
 // The bytes that a version's start block has at least.
 pub fn block_length(v: Version) -> usize
     ensures { λ r. ⌜ r ≡ lengthOf v ⌝ }
 {
-    if v.gte(3, 14) {
-        return 760;
+    if Gate::MATCH.reached(v) {
+        return Gate::MATCH.bytes;
     }
-    if v.gte(3, 12) {
-        return 701;
+    if Gate::LANGUAGE.reached(v) {
+        return Gate::LANGUAGE.bytes;
     }
-    if v.gte(3, 11) {
-        return 700;
+    if Gate::SUID.reached(v) {
+        return Gate::SUID.bytes;
     }
-    if v.gte(3, 9) {
-        return 584;
+    if Gate::NETPLAY.reached(v) {
+        return Gate::NETPLAY.bytes;
     }
-    if v.gte(3, 7) {
-        return 420;
+    if Gate::SCENE.reached(v) {
+        return Gate::SCENE.bytes;
     }
-    if v.gte(2, 0) {
-        return 418;
+    if Gate::FROZEN.reached(v) {
+        return Gate::FROZEN.bytes;
     }
-    if v.gte(1, 5) {
-        return 417;
+    if Gate::PAL.reached(v) {
+        return Gate::PAL.bytes;
     }
-    if v.gte(1, 3) {
-        return 416;
+    if Gate::TAG.reached(v) {
+        return Gate::TAG.bytes;
     }
-    if v.gte(1, 0) {
-        return 352;
+    if Gate::UCF.reached(v) {
+        return Gate::UCF.bytes;
     }
     320
 }

@@ -1,4 +1,7 @@
-// What a game starts with: its fields, the length of its start block, and what refuses it.
-pub mod game;
+// What a game starts with: the length of its start block, what refuses it, and the block's bytes.
+pub mod block;
+pub mod field;
+pub mod gate;
 pub mod judge;
 pub mod length;
+pub mod seat;

@@ -4,8 +4,8 @@
 use mathlib.Core.Path.{_≡_, refl}
 use mathlib.Core.Bool.{cond}
 use mathlib.Core.List.{List, [], _∷_, _++_, map}
-use Prim.Native.Nat.{ℕ, zero, suc, _+_, _*_}
-use lib.IntN.{pos, negsuc}
+use Prim.Native.Nat.{ℕ, zero, suc, _+_, _-_, _*_}
+use lib.IntN.{ℤ, pos, negsuc}
 use lib.ListN.{length, getD, replicate}
 use Rattle.wire.specs.Wire.{keep, tabulate}
 use Rattle.format.specs.Version.{version, above, gteOf, acceptedOf}
@@ -14,19 +14,20 @@ use Rattle.format.specs.declared.version.Version.{Version}
 use Rattle.layout.specs.Columns.{columnsOf, chosen, sum, hasFamily, widthsOf}
 use Rattle.layout.specs.declared.columns.Family.{Family}
 use Rattle.layout.specs.declared.columns.Family.the-variants as family
-use Rattle.frames.specs.Input.{portsOf, portSlots, portBytes, slotsFrom, slotsOf}
-use Rattle.frames.specs.Stores.{Lent, cells, offsets, lent}
-use Rattle.frames.specs.Judge.{tooMany, misfits, storesMisfit, columnsExceed, blocksExceed, exceeds, cellsExceed, falls, strays, given, misleads, offsetsMislead, uneven, portUneven, portsUneven, presenceWrong, portNumbers, twice, portsWrong, refusals}
-use Rattle.frames.specs.declared.input.PortColumn.{PortColumn}
-use Rattle.frames.specs.declared.input.Frames.{Frames}
+use Rattle.game.specs.Frames.{portsOf, portSlots, portBytes, slotsFrom, slotsOf}
+use Rattle.game.specs.Stores.{Lent, cells, offsets, lent}
+use Rattle.frames.specs.Judge.{tooMany, misfits, storesMisfit, columnsExceed, blocksExceed, exceeds, cellsExceed, falls, strays, leftOver, misleads, offsetsMislead, portNumbers, twice, portsWrong, refusals}
+use Rattle.players.specs.Presence.{uneven, portUneven, portsUneven, presenceWrong}
+use Rattle.game.specs.declared.frames.PortColumn.{PortColumn}
+use Rattle.game.specs.declared.frames.Frames.{Frames}
 use Rattle.rows.specs.Cells.{firstCells}
 use Rattle.rows.specs.Parts.{float, positionOf, velocityOf, triggersOf, miscOf}
-use Rattle.rows.specs.Rows.{noPre}
-use Rattle.transpose.specs.Judge.{outside, refusal}
-use Rattle.transpose.specs.Ports.{slotsIn, portAt}
+use Rattle.rows.specs.Rows.{preOf, itemOf}
+use Rattle.transpose.specs.Judge.{outside, rowRefusal}
+use Rattle.transpose.specs.Ports.{portAt}
 use Rattle.transpose.specs.Frame.{rangeAt}
-use Rattle.transpose.specs.Answers.{unlessRefused, preRow, postRow, itemRow, stadiumTransformationRow, frameRow}
-use Rattle.transpose.specs.declared.frame.Range.{Range}
+use Rattle.transpose.specs.Answers.{unlessRefused, preAnswer, preRow, postRow, itemAnswer, itemRow, stadiumTransformationRow, frameRow}
+use Rattle.transpose.specs.declared.frame.Frame.{Frame}
 use Rattle.transpose.specs.declared.frame.PortData.{PortData}
 use Rattle.transpose.specs.declared.records.PreRow.{PreRow}
 use Rattle.transpose.specs.declared.records.ItemRow.{ItemRow}
@@ -65,70 +66,160 @@ stores v items os =
     (offsets (at family.Item v os) (at family.FodPlatform v (zeros 3)) (at family.DreamlandWhispy v (zeros 3)) (at family.StadiumTransformation v (zeros 3)))
     (0 ∷ [])
 
--- a version, and the cells of the follower's record in the second frame
+-- a version, and the follower's record in the second frame: its first cell, from which the others go up by 2, and how many columns it has
 record Row : Type 0 where
   version : Version
-  bits : List ℕ
+  first : ℕ
+  columns : ℕ
 
-abbrev row : Version → List ℕ → Row
-row v bits = record { version = v; bits = bits }
+abbrev row : Version → ℕ → ℕ → Row
+row v first columns = record { version = v; first = first; columns = columns }
+
+twos : ℕ → ℕ → List ℕ
+twos from zero = []
+twos from (suc n) = from ∷ twos (from + 2) n
+
+abbrev bitsOf : Row → List ℕ
+bitsOf r = twos (r .first) (r .columns) ++ zeros (32 - r .columns)
 
 pres : List Row
 pres =
-    row (version 0 1 0) (30 ∷ 32 ∷ 34 ∷ 36 ∷ 38 ∷ 40 ∷ 42 ∷ 44 ∷ 46 ∷ 48 ∷ 50 ∷ 52 ∷ 54 ∷ 56 ∷ zeros 18)
-    ∷ row (version 0 2 0) (30 ∷ 32 ∷ 34 ∷ 36 ∷ 38 ∷ 40 ∷ 42 ∷ 44 ∷ 46 ∷ 48 ∷ 50 ∷ 52 ∷ 54 ∷ 56 ∷ zeros 18)
-    ∷ row (version 1 1 0) (30 ∷ 32 ∷ 34 ∷ 36 ∷ 38 ∷ 40 ∷ 42 ∷ 44 ∷ 46 ∷ 48 ∷ 50 ∷ 52 ∷ 54 ∷ 56 ∷ zeros 18)
-    ∷ row (version 1 2 0) (32 ∷ 34 ∷ 36 ∷ 38 ∷ 40 ∷ 42 ∷ 44 ∷ 46 ∷ 48 ∷ 50 ∷ 52 ∷ 54 ∷ 56 ∷ 58 ∷ 60 ∷ zeros 17)
-    ∷ row (version 1 3 0) (32 ∷ 34 ∷ 36 ∷ 38 ∷ 40 ∷ 42 ∷ 44 ∷ 46 ∷ 48 ∷ 50 ∷ 52 ∷ 54 ∷ 56 ∷ 58 ∷ 60 ∷ zeros 17)
-    ∷ row (version 1 4 0) (34 ∷ 36 ∷ 38 ∷ 40 ∷ 42 ∷ 44 ∷ 46 ∷ 48 ∷ 50 ∷ 52 ∷ 54 ∷ 56 ∷ 58 ∷ 60 ∷ 62 ∷ 64 ∷ zeros 16)
-    ∷ row (version 2 0 0) (34 ∷ 36 ∷ 38 ∷ 40 ∷ 42 ∷ 44 ∷ 46 ∷ 48 ∷ 50 ∷ 52 ∷ 54 ∷ 56 ∷ 58 ∷ 60 ∷ 62 ∷ 64 ∷ zeros 16)
-    ∷ row (version 2 1 0) (34 ∷ 36 ∷ 38 ∷ 40 ∷ 42 ∷ 44 ∷ 46 ∷ 48 ∷ 50 ∷ 52 ∷ 54 ∷ 56 ∷ 58 ∷ 60 ∷ 62 ∷ 64 ∷ zeros 16)
-    ∷ row (version 3 5 0) (34 ∷ 36 ∷ 38 ∷ 40 ∷ 42 ∷ 44 ∷ 46 ∷ 48 ∷ 50 ∷ 52 ∷ 54 ∷ 56 ∷ 58 ∷ 60 ∷ 62 ∷ 64 ∷ zeros 16)
-    ∷ row (version 3 8 0) (34 ∷ 36 ∷ 38 ∷ 40 ∷ 42 ∷ 44 ∷ 46 ∷ 48 ∷ 50 ∷ 52 ∷ 54 ∷ 56 ∷ 58 ∷ 60 ∷ 62 ∷ 64 ∷ zeros 16)
-    ∷ row (version 3 11 0) (34 ∷ 36 ∷ 38 ∷ 40 ∷ 42 ∷ 44 ∷ 46 ∷ 48 ∷ 50 ∷ 52 ∷ 54 ∷ 56 ∷ 58 ∷ 60 ∷ 62 ∷ 64 ∷ zeros 16)
-    ∷ row (version 3 14 0) (34 ∷ 36 ∷ 38 ∷ 40 ∷ 42 ∷ 44 ∷ 46 ∷ 48 ∷ 50 ∷ 52 ∷ 54 ∷ 56 ∷ 58 ∷ 60 ∷ 62 ∷ 64 ∷ zeros 16)
-    ∷ row (version 3 15 0) (36 ∷ 38 ∷ 40 ∷ 42 ∷ 44 ∷ 46 ∷ 48 ∷ 50 ∷ 52 ∷ 54 ∷ 56 ∷ 58 ∷ 60 ∷ 62 ∷ 64 ∷ 66 ∷ 68 ∷ zeros 15)
-    ∷ row (version 3 16 0) (36 ∷ 38 ∷ 40 ∷ 42 ∷ 44 ∷ 46 ∷ 48 ∷ 50 ∷ 52 ∷ 54 ∷ 56 ∷ 58 ∷ 60 ∷ 62 ∷ 64 ∷ 66 ∷ 68 ∷ zeros 15)
-    ∷ row (version 3 17 0) (40 ∷ 42 ∷ 44 ∷ 46 ∷ 48 ∷ 50 ∷ 52 ∷ 54 ∷ 56 ∷ 58 ∷ 60 ∷ 62 ∷ 64 ∷ 66 ∷ 68 ∷ 70 ∷ 72 ∷ 74 ∷ 76 ∷ zeros 13)
-    ∷ row (version 3 18 0) (40 ∷ 42 ∷ 44 ∷ 46 ∷ 48 ∷ 50 ∷ 52 ∷ 54 ∷ 56 ∷ 58 ∷ 60 ∷ 62 ∷ 64 ∷ 66 ∷ 68 ∷ 70 ∷ 72 ∷ 74 ∷ 76 ∷ zeros 13)
+    row (version 0 1 0) 30 14
+    ∷ row (version 0 2 0) 30 14
+    ∷ row (version 1 1 0) 30 14
+    ∷ row (version 1 2 0) 32 15
+    ∷ row (version 1 3 0) 32 15
+    ∷ row (version 1 4 0) 34 16
+    ∷ row (version 2 0 0) 34 16
+    ∷ row (version 2 1 0) 34 16
+    ∷ row (version 3 5 0) 34 16
+    ∷ row (version 3 8 0) 34 16
+    ∷ row (version 3 11 0) 34 16
+    ∷ row (version 3 14 0) 34 16
+    ∷ row (version 3 15 0) 36 17
+    ∷ row (version 3 16 0) 36 17
+    ∷ row (version 3 17 0) 40 19
+    ∷ row (version 3 18 0) 40 19
     ∷ []
 
 posts : List Row
 posts =
-    row (version 0 1 0) (24 ∷ 26 ∷ 28 ∷ 30 ∷ 32 ∷ 34 ∷ 36 ∷ 38 ∷ 40 ∷ 42 ∷ 44 ∷ zeros 21)
-    ∷ row (version 0 2 0) (26 ∷ 28 ∷ 30 ∷ 32 ∷ 34 ∷ 36 ∷ 38 ∷ 40 ∷ 42 ∷ 44 ∷ 46 ∷ 48 ∷ zeros 20)
-    ∷ row (version 1 2 0) (26 ∷ 28 ∷ 30 ∷ 32 ∷ 34 ∷ 36 ∷ 38 ∷ 40 ∷ 42 ∷ 44 ∷ 46 ∷ 48 ∷ zeros 20)
-    ∷ row (version 1 4 0) (26 ∷ 28 ∷ 30 ∷ 32 ∷ 34 ∷ 36 ∷ 38 ∷ 40 ∷ 42 ∷ 44 ∷ 46 ∷ 48 ∷ zeros 20)
-    ∷ row (version 1 255 0) (26 ∷ 28 ∷ 30 ∷ 32 ∷ 34 ∷ 36 ∷ 38 ∷ 40 ∷ 42 ∷ 44 ∷ 46 ∷ 48 ∷ zeros 20)
-    ∷ row (version 2 0 0) (46 ∷ 48 ∷ 50 ∷ 52 ∷ 54 ∷ 56 ∷ 58 ∷ 60 ∷ 62 ∷ 64 ∷ 66 ∷ 68 ∷ 70 ∷ 72 ∷ 74 ∷ 76 ∷ 78 ∷ 80 ∷ 82 ∷ 84 ∷ 86 ∷ 88 ∷ zeros 10)
-    ∷ row (version 2 1 0) (48 ∷ 50 ∷ 52 ∷ 54 ∷ 56 ∷ 58 ∷ 60 ∷ 62 ∷ 64 ∷ 66 ∷ 68 ∷ 70 ∷ 72 ∷ 74 ∷ 76 ∷ 78 ∷ 80 ∷ 82 ∷ 84 ∷ 86 ∷ 88 ∷ 90 ∷ 92 ∷ zeros 9)
-    ∷ row (version 3 4 0) (48 ∷ 50 ∷ 52 ∷ 54 ∷ 56 ∷ 58 ∷ 60 ∷ 62 ∷ 64 ∷ 66 ∷ 68 ∷ 70 ∷ 72 ∷ 74 ∷ 76 ∷ 78 ∷ 80 ∷ 82 ∷ 84 ∷ 86 ∷ 88 ∷ 90 ∷ 92 ∷ zeros 9)
-    ∷ row (version 3 5 0) (58 ∷ 60 ∷ 62 ∷ 64 ∷ 66 ∷ 68 ∷ 70 ∷ 72 ∷ 74 ∷ 76 ∷ 78 ∷ 80 ∷ 82 ∷ 84 ∷ 86 ∷ 88 ∷ 90 ∷ 92 ∷ 94 ∷ 96 ∷ 98 ∷ 100 ∷ 102 ∷ 104 ∷ 106 ∷ 108 ∷ 110 ∷ 112 ∷ zeros 4)
-    ∷ row (version 3 7 0) (58 ∷ 60 ∷ 62 ∷ 64 ∷ 66 ∷ 68 ∷ 70 ∷ 72 ∷ 74 ∷ 76 ∷ 78 ∷ 80 ∷ 82 ∷ 84 ∷ 86 ∷ 88 ∷ 90 ∷ 92 ∷ 94 ∷ 96 ∷ 98 ∷ 100 ∷ 102 ∷ 104 ∷ 106 ∷ 108 ∷ 110 ∷ 112 ∷ zeros 4)
-    ∷ row (version 3 8 0) (60 ∷ 62 ∷ 64 ∷ 66 ∷ 68 ∷ 70 ∷ 72 ∷ 74 ∷ 76 ∷ 78 ∷ 80 ∷ 82 ∷ 84 ∷ 86 ∷ 88 ∷ 90 ∷ 92 ∷ 94 ∷ 96 ∷ 98 ∷ 100 ∷ 102 ∷ 104 ∷ 106 ∷ 108 ∷ 110 ∷ 112 ∷ 114 ∷ 116 ∷ zeros 3)
-    ∷ row (version 3 10 0) (60 ∷ 62 ∷ 64 ∷ 66 ∷ 68 ∷ 70 ∷ 72 ∷ 74 ∷ 76 ∷ 78 ∷ 80 ∷ 82 ∷ 84 ∷ 86 ∷ 88 ∷ 90 ∷ 92 ∷ 94 ∷ 96 ∷ 98 ∷ 100 ∷ 102 ∷ 104 ∷ 106 ∷ 108 ∷ 110 ∷ 112 ∷ 114 ∷ 116 ∷ zeros 3)
-    ∷ row (version 3 11 0) (62 ∷ 64 ∷ 66 ∷ 68 ∷ 70 ∷ 72 ∷ 74 ∷ 76 ∷ 78 ∷ 80 ∷ 82 ∷ 84 ∷ 86 ∷ 88 ∷ 90 ∷ 92 ∷ 94 ∷ 96 ∷ 98 ∷ 100 ∷ 102 ∷ 104 ∷ 106 ∷ 108 ∷ 110 ∷ 112 ∷ 114 ∷ 116 ∷ 118 ∷ 120 ∷ zeros 2)
-    ∷ row (version 3 15 0) (62 ∷ 64 ∷ 66 ∷ 68 ∷ 70 ∷ 72 ∷ 74 ∷ 76 ∷ 78 ∷ 80 ∷ 82 ∷ 84 ∷ 86 ∷ 88 ∷ 90 ∷ 92 ∷ 94 ∷ 96 ∷ 98 ∷ 100 ∷ 102 ∷ 104 ∷ 106 ∷ 108 ∷ 110 ∷ 112 ∷ 114 ∷ 116 ∷ 118 ∷ 120 ∷ zeros 2)
-    ∷ row (version 3 16 0) (66 ∷ 68 ∷ 70 ∷ 72 ∷ 74 ∷ 76 ∷ 78 ∷ 80 ∷ 82 ∷ 84 ∷ 86 ∷ 88 ∷ 90 ∷ 92 ∷ 94 ∷ 96 ∷ 98 ∷ 100 ∷ 102 ∷ 104 ∷ 106 ∷ 108 ∷ 110 ∷ 112 ∷ 114 ∷ 116 ∷ 118 ∷ 120 ∷ 122 ∷ 124 ∷ 126 ∷ 128 ∷ [])
-    ∷ row (version 3 17 0) (66 ∷ 68 ∷ 70 ∷ 72 ∷ 74 ∷ 76 ∷ 78 ∷ 80 ∷ 82 ∷ 84 ∷ 86 ∷ 88 ∷ 90 ∷ 92 ∷ 94 ∷ 96 ∷ 98 ∷ 100 ∷ 102 ∷ 104 ∷ 106 ∷ 108 ∷ 110 ∷ 112 ∷ 114 ∷ 116 ∷ 118 ∷ 120 ∷ 122 ∷ 124 ∷ 126 ∷ 128 ∷ [])
-    ∷ row (version 3 18 0) (66 ∷ 68 ∷ 70 ∷ 72 ∷ 74 ∷ 76 ∷ 78 ∷ 80 ∷ 82 ∷ 84 ∷ 86 ∷ 88 ∷ 90 ∷ 92 ∷ 94 ∷ 96 ∷ 98 ∷ 100 ∷ 102 ∷ 104 ∷ 106 ∷ 108 ∷ 110 ∷ 112 ∷ 114 ∷ 116 ∷ 118 ∷ 120 ∷ 122 ∷ 124 ∷ 126 ∷ 128 ∷ [])
+    row (version 0 1 0) 24 11
+    ∷ row (version 0 2 0) 26 12
+    ∷ row (version 1 2 0) 26 12
+    ∷ row (version 1 4 0) 26 12
+    ∷ row (version 1 255 0) 26 12
+    ∷ row (version 2 0 0) 46 22
+    ∷ row (version 2 1 0) 48 23
+    ∷ row (version 3 4 0) 48 23
+    ∷ row (version 3 5 0) 58 28
+    ∷ row (version 3 7 0) 58 28
+    ∷ row (version 3 8 0) 60 29
+    ∷ row (version 3 10 0) 60 29
+    ∷ row (version 3 11 0) 62 30
+    ∷ row (version 3 15 0) 62 30
+    ∷ row (version 3 16 0) 66 32
+    ∷ row (version 3 17 0) 66 32
+    ∷ row (version 3 18 0) 66 32
     ∷ []
 
-pre-rows : map (λ (r : Row). preRow (game (r .version) 0) (stores (r .version) [] (zeros 3)) 1 1 .row .bits) pres ≡ map (λ (r : Row). r .bits) pres
-unfolding unlessRefused refusal outside firstCells slotsIn portAt rangeAt lowest refusals acceptedOf above gteOf columnsOf chosen sum hasFamily keep tabulate portsOf portSlots portBytes slotsFrom slotsOf oneOf tooMany misfits storesMisfit columnsExceed blocksExceed exceeds cellsExceed falls strays given misleads offsetsMislead uneven portUneven portsUneven presenceWrong portNumbers twice portsWrong up pres
-pre-rows = refl
+-- ---- the table
 
-post-rows : map (λ (r : Row). postRow (game (r .version) 0) (stores (r .version) [] (zeros 3)) 1 1 .row .bits) posts ≡ map (λ (r : Row). r .bits) posts
-unfolding unlessRefused refusal outside firstCells slotsIn portAt rangeAt lowest refusals acceptedOf above gteOf columnsOf chosen sum hasFamily keep tabulate portsOf portSlots portBytes slotsFrom slotsOf oneOf tooMany misfits storesMisfit columnsExceed blocksExceed exceeds cellsExceed falls strays given misleads offsetsMislead uneven portUneven portsUneven presenceWrong portNumbers twice portsWrong up posts
-post-rows = refl
+-- what is asked for: the row of a record, by slot and index or by index, or of a frame
+data Ask : Type 0 where
+  pre : ℕ → ℕ → Ask
+  post : ℕ → ℕ → Ask
+  item : ℕ → Ask
+  stadium : ℕ → Ask
+  frame : ℕ → Ask
+
+-- an answer as numbers: the refusal's, then the row's version and cells
+abbrev numbers : ℕ → Version → List ℕ → List ℕ
+numbers refused v bits = refused ∷ v .major ∷ v .minor ∷ v .patch ∷ bits
+
+abbrev idBits : ℤ → ℕ
+idBits (pos n) = n
+idBits (negsuc n) = 0xffff_ffff - n
+
+-- of a frame: its id's bits, its ports, the first cells of its start and end, the range of its items and of a family without rows
+abbrev portNumbersOf : PortData → List ℕ
+portNumbersOf p = p .port ∷ p .«follower_given» ∷ getD (p .leader .pre .bits) 0 0 ∷ getD (p .follower .post .bits) 0 0 ∷ []
+
+joined : List (List ℕ) → List ℕ
+joined [] = []
+joined (xs ∷ xss) = xs ++ joined xss
+
+abbrev frameNumbers : Frame → List ℕ
+frameNumbers r =
+    idBits (r .id) ∷ r .«port_count» ∷ getD (r .start .bits) 0 0 ∷ getD (r .end .bits) 0 0
+    ∷ r .items .first ∷ r .items .count ∷ r .«fod_platforms» .first ∷ r .«fod_platforms» .count
+    ∷ joined (map portNumbersOf (r .ports))
+
+shown : Frames → Lent → Ask → List ℕ
+shown f s (pre slot index) = let r = preRow f s slot index in numbers (r .refused) (r .row .version) (r .row .bits)
+shown f s (post slot index) = let r = postRow f s slot index in numbers (r .refused) (r .row .version) (r .row .bits)
+shown f s (item index) = let r = itemRow f s index in numbers (r .refused) (r .row .version) (r .row .bits)
+shown f s (stadium index) = let r = stadiumTransformationRow f s index in numbers (r .refused) (r .row .version) (r .row .bits)
+shown f s (frame index) = let r = frameRow f s index in numbers (r .refused) (r .row .version) (frameNumbers (r .row))
+
+-- a case: the game's version, its items and their offsets, what is asked for, and the answer
+record Case : Type 0 where
+  version : Version
+  count : ℕ
+  cells : List ℕ
+  offsets : List ℕ
+  ask : Ask
+  answer : List ℕ
+
+abbrev case : Version → ℕ → List ℕ → List ℕ → Ask → List ℕ → Case
+case v n items os ask answer = record { version = v; count = n; cells = items; offsets = os; ask = ask; answer = answer }
+
+-- without items, and a refusal, whose row is all zero
+abbrev plain : Version → Ask → List ℕ → Case
+plain v ask answer = case v 0 [] (zeros 3) ask answer
+
+abbrev none : ℕ → ℕ → List ℕ
+none number n = number ∷ zeros (3 + n)
+
+-- the second of three items, at 3.6: its owner's bits are 255, and its instance came later
+abbrev items : List ℕ
+items =
+    zeros 1 ++ (7 ∷ zeros 2 ++ (3 ∷ zeros 2 ++ (0x3f80_0000 ∷ zeros 2 ++ (11 ∷ zeros 2 ++ (12 ∷ zeros 2 ++ (13 ∷ zeros 2 ++ (14 ∷ zeros 2 ++ (65535 ∷ zeros 2
+    ++ (0x7f80_0001 ∷ zeros 2 ++ (99 ∷ zeros 2 ++ (1 ∷ zeros 2 ++ (2 ∷ zeros 2 ++ (3 ∷ zeros 2 ++ (4 ∷ zeros 2 ++ (255 ∷ zeros 1)))))))))))))))
+
+abbrev secondCells : List ℕ
+secondCells = 7 ∷ 3 ∷ 0x3f80_0000 ∷ 11 ∷ 12 ∷ 13 ∷ 14 ∷ 65535 ∷ 0x7f80_0001 ∷ 99 ∷ 1 ∷ 2 ∷ 3 ∷ 4 ∷ 255 ∷ zeros 17
+
+abbrev second : ItemRow
+second = record {
+  refused = 0;
+  row = record {
+    version = version 3 6 0;
+    bits = secondCells;
+    «type_id» = 7;
+    state = 3;
+    direction = float 0x3f80_0000;
+    velocity = velocityOf 11 12;
+    position = positionOf 13 14;
+    damage = 65535;
+    timer = float 0x7f80_0001;
+    id = 99;
+    misc = miscOf 1 2 3 4;
+    owner = negsuc 0;
+    «instance_id» = 0;
+  };
+}
 
 -- a whole Pre row, at 1.2: the leader of port 1 in the first frame; percent and three sticks came later
+abbrev earlyCells : List ℕ
+earlyCells = 1 ∷ 3 ∷ 5 ∷ 7 ∷ 9 ∷ 11 ∷ 13 ∷ 15 ∷ 17 ∷ 19 ∷ 21 ∷ 23 ∷ 25 ∷ 27 ∷ 29 ∷ zeros 17
+
 abbrev early : PreRow
 early = record {
   refused = 0;
   row = record {
     version = version 1 2 0;
-    bits = 1 ∷ 3 ∷ 5 ∷ 7 ∷ 9 ∷ 11 ∷ 13 ∷ 15 ∷ 17 ∷ 19 ∷ 21 ∷ 23 ∷ 25 ∷ 27 ∷ 29 ∷ zeros 17;
+    bits = earlyCells;
     «random_seed» = 1;
     state = 3;
     position = positionOf 5 7;
@@ -147,73 +238,37 @@ early = record {
   };
 }
 
-whole-pre : preRow (game (version 1 2 0) 0) (stores (version 1 2 0) [] []) 0 0 ≡ early
-unfolding unlessRefused refusal outside firstCells slotsIn portAt rangeAt lowest refusals acceptedOf above gteOf columnsOf chosen sum hasFamily keep tabulate portsOf portSlots portBytes slotsFrom slotsOf oneOf tooMany misfits storesMisfit columnsExceed blocksExceed exceeds cellsExceed falls strays given misleads offsetsMislead uneven portUneven portsUneven presenceWrong portNumbers twice portsWrong up
+-- the refusals are of a slot and a frame that are not there, an item that is not there, a family that the version lacks, and a version above 3.18.0;
+-- the frame is the second at 3.7: id -122, three players, the start's seed, the end's frame -1, and the last two of the three items
+others : List Case
+others =
+    plain (version 1 2 0) (pre 0 0) (numbers 0 (version 1 2 0) earlyCells)
+    ∷ case (version 3 6 0) 3 items (0 ∷ 1 ∷ 3 ∷ []) (item 1) (numbers 0 (version 3 6 0) secondCells)
+    ∷ plain (version 0 1 0) (pre 3 1) (none 13 32)
+    ∷ plain (version 0 1 0) (pre 2 2) (none 13 32)
+    ∷ case (version 3 6 0) 3 items (0 ∷ 1 ∷ 3 ∷ []) (item 3) (none 13 32)
+    ∷ plain (version 2 0 0) (item 0) (none 13 32)
+    ∷ plain (version 3 18 0) (stadium 0) (none 13 32)
+    ∷ plain (version 3 18 1) (pre 0 0) (none 1 32)
+    ∷ plain (version 0 1 0) (frame 2) (none 13 24)
+    ∷ plain (version 3 18 1) (frame 2) (none 1 24)
+    ∷ case (version 3 7 0) 3 (zeros 45) (0 ∷ 1 ∷ 3 ∷ []) (frame 1)
+    (numbers 0 (version 3 7 0)
+    (0xffff_ff86 ∷ 2 ∷ 2 ∷ 0xffff_ffff ∷ 1 ∷ 2 ∷ 0 ∷ 0 ∷ 1 ∷ 1 ∷ 2 ∷ 58 ∷ 3 ∷ 0 ∷ 66 ∷ 0 ∷ zeros 8))
+    ∷ []
+
+cases : List Case
+cases =
+    map (λ (r : Row). plain (r .version) (pre 1 1) (numbers 0 (r .version) (bitsOf r))) pres
+    ++ (map (λ (r : Row). plain (r .version) (post 1 1) (numbers 0 (r .version) (bitsOf r))) posts ++ others)
+
+computed : map (λ (c : Case). shown (game (c .version) (c .count)) (stores (c .version) (c .cells) (c .offsets)) (c .ask)) cases ≡ map (λ (c : Case). c .answer) cases
+unfolding cases pres posts twos others joined shown unlessRefused rowRefusal outside firstCells portAt rangeAt lowest refusals acceptedOf above gteOf columnsOf chosen sum hasFamily keep tabulate portsOf portSlots portBytes slotsFrom slotsOf oneOf tooMany misfits storesMisfit columnsExceed blocksExceed exceeds cellsExceed falls strays leftOver misleads offsetsMislead uneven portUneven portsUneven presenceWrong portNumbers twice portsWrong up
+computed = refl
+
+-- the whole rows of the first two of the others
+whole-pre : preAnswer 0 (preOf earlyCells (version 1 2 0)) ≡ early
 whole-pre = refl
 
--- the second of three items, at 3.6: its owner's bits are 255, and its instance came later
-abbrev items : List ℕ
-items =
-    zeros 1 ++ (7 ∷ zeros 2 ++ (3 ∷ zeros 2 ++ (0x3f80_0000 ∷ zeros 2 ++ (11 ∷ zeros 2 ++ (12 ∷ zeros 2 ++ (13 ∷ zeros 2 ++ (14 ∷ zeros 2 ++ (65535 ∷ zeros 2
-    ++ (0x7f80_0001 ∷ zeros 2 ++ (99 ∷ zeros 2 ++ (1 ∷ zeros 2 ++ (2 ∷ zeros 2 ++ (3 ∷ zeros 2 ++ (4 ∷ zeros 2 ++ (255 ∷ zeros 1)))))))))))))))
-
-abbrev second : ItemRow
-second = record {
-  refused = 0;
-  row = record {
-    version = version 3 6 0;
-    bits = 7 ∷ 3 ∷ 0x3f80_0000 ∷ 11 ∷ 12 ∷ 13 ∷ 14 ∷ 65535 ∷ 0x7f80_0001 ∷ 99 ∷ 1 ∷ 2 ∷ 3 ∷ 4 ∷ 255 ∷ zeros 17;
-    «type_id» = 7;
-    state = 3;
-    direction = float 0x3f80_0000;
-    velocity = velocityOf 11 12;
-    position = positionOf 13 14;
-    damage = 65535;
-    timer = float 0x7f80_0001;
-    id = 99;
-    misc = miscOf 1 2 3 4;
-    owner = negsuc 0;
-    «instance_id» = 0;
-  };
-}
-
-whole-item : itemRow (game (version 3 6 0) 3) (stores (version 3 6 0) items (0 ∷ 1 ∷ 3 ∷ [])) 1 ≡ second
-unfolding unlessRefused refusal outside firstCells slotsIn portAt rangeAt lowest refusals acceptedOf above gteOf columnsOf chosen sum hasFamily keep tabulate portsOf portSlots portBytes slotsFrom slotsOf oneOf tooMany misfits storesMisfit columnsExceed blocksExceed exceeds cellsExceed falls strays given misleads offsetsMislead uneven portUneven portsUneven presenceWrong portNumbers twice portsWrong up
+whole-item : itemAnswer 0 (itemOf secondCells (version 3 6 0)) ≡ second
 whole-item = refl
-
--- refusals: a slot and a frame that are not there, an item that is not there, a family that the version lacks, and a version above 3.18.0
-refusals-of-rows : preRow (game (version 0 1 0) 0) (stores (version 0 1 0) [] []) 2 1 .refused
-    ∷ preRow (game (version 0 1 0) 0) (stores (version 0 1 0) [] []) 3 1 .refused
-    ∷ preRow (game (version 0 1 0) 0) (stores (version 0 1 0) [] []) 2 2 .refused
-    ∷ itemRow (game (version 3 6 0) 3) (stores (version 3 6 0) items (0 ∷ 1 ∷ 3 ∷ [])) 3 .refused
-    ∷ itemRow (game (version 2 0 0) 0) (stores (version 2 0 0) [] []) 0 .refused
-    ∷ stadiumTransformationRow (game (version 3 18 0) 0) (stores (version 3 18 0) [] (zeros 3)) 0 .refused
-    ∷ frameRow (game (version 0 1 0) 0) (stores (version 0 1 0) [] []) 2 .refused
-    ∷ frameRow (game (version 3 18 1) 0) (stores (version 3 18 1) [] (zeros 3)) 2 .refused
-    ∷ []
-    ≡ 0 ∷ 13 ∷ 13 ∷ 13 ∷ 13 ∷ 13 ∷ 13 ∷ 1 ∷ []
-unfolding unlessRefused refusal outside firstCells slotsIn portAt rangeAt lowest refusals acceptedOf above gteOf columnsOf chosen sum hasFamily keep tabulate portsOf portSlots portBytes slotsFrom slotsOf oneOf tooMany misfits storesMisfit columnsExceed blocksExceed exceeds cellsExceed falls strays given misleads offsetsMislead uneven portUneven portsUneven presenceWrong portNumbers twice portsWrong up
-refusals-of-rows = refl
-
--- and the row beside a number is all zero
-refused-row : preRow (game (version 3 18 1) 0) (stores (version 3 18 1) [] (zeros 3)) 0 0 ≡ record { refused = 1; row = noPre }
-unfolding unlessRefused refusal outside firstCells slotsIn portAt rangeAt lowest refusals acceptedOf above gteOf columnsOf chosen sum hasFamily keep tabulate portsOf portSlots portBytes slotsFrom slotsOf oneOf tooMany misfits storesMisfit columnsExceed blocksExceed exceeds cellsExceed falls strays given misleads offsetsMislead uneven portUneven portsUneven presenceWrong portNumbers twice portsWrong up
-refused-row = refl
-
--- the second frame at 3.7: id -122, three players, the start's seed, the end's frame -1, and the last two of the three items
-abbrev threeItems : List ℕ
-threeItems = zeros 45
-
-frame-ports : map (λ (p : PortData). p .port ∷ p .«follower_given» ∷ getD (p .leader .pre .bits) 0 0 ∷ getD (p .follower .post .bits) 0 0 ∷ [])
-    (frameRow (game (version 3 7 0) 3) (stores (version 3 7 0) threeItems (0 ∷ 1 ∷ 3 ∷ [])) 1 .row .ports)
-    ≡ (1 ∷ 1 ∷ 2 ∷ 58 ∷ []) ∷ (3 ∷ 0 ∷ 66 ∷ 0 ∷ []) ∷ (0 ∷ 0 ∷ 0 ∷ 0 ∷ []) ∷ (0 ∷ 0 ∷ 0 ∷ 0 ∷ []) ∷ []
-unfolding unlessRefused refusal outside firstCells slotsIn portAt rangeAt lowest refusals acceptedOf above gteOf columnsOf chosen sum hasFamily keep tabulate portsOf portSlots portBytes slotsFrom slotsOf oneOf tooMany misfits storesMisfit columnsExceed blocksExceed exceeds cellsExceed falls strays given misleads offsetsMislead uneven portUneven portsUneven presenceWrong portNumbers twice portsWrong up
-frame-ports = refl
-
-abbrev range : ℕ → ℕ → Range
-range a n = record { first = a; count = n }
-
-frame-rest : let r = frameRow (game (version 3 7 0) 3) (stores (version 3 7 0) threeItems (0 ∷ 1 ∷ 3 ∷ [])) 1 .row in
-    (r .id ≡ negsuc 121) × (r .«port_count» ≡ 2) × (r .start .bits ≡ 2 ∷ zeros 31) × (r .end .«latest_finalized_frame» ≡ negsuc 0) × (r .items ≡ range 1 2) × (r .«fod_platforms» ≡ range 0 0)
-unfolding unlessRefused refusal outside firstCells slotsIn portAt rangeAt lowest refusals acceptedOf above gteOf columnsOf chosen sum hasFamily keep tabulate portsOf portSlots portBytes slotsFrom slotsOf oneOf tooMany misfits storesMisfit columnsExceed blocksExceed exceeds cellsExceed falls strays given misleads offsetsMislead uneven portUneven portsUneven presenceWrong portNumbers twice portsWrong up
-frame-rest = (refl, refl, refl, refl, refl, refl)

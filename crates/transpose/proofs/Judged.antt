@@ -1,71 +1,70 @@
 -- What an answer says: a refusal's number, or that the place is in stores that were judged.
 -- Assumes nothing.
 use mathlib.Core.Path.{_≡_, refl, sym, ap₂, _∙_}
-use mathlib.Core.Bool.{Bool, true, false, cond}
+use mathlib.Core.Bool.{true, false}
+use mathlib.Core.List.{List, [], _∷_}
 use Prim.Native.Nat.{ℕ, zero, suc, _<_}
-use native.Mathlib.Omega.{arith}
 use borrow.Author.Tests.{leb-false}
 use lib.Dec.{leb, lit<}
-use Rattle.format.specs.Refusal.{lowest}
+use Rattle.format.specs.Refusal.{Refusal, refuse, lowest}
+use Rattle.format.proofs.Refusals.{skip, here, none, passed, lowest-before, lowest-after, lowest-first}
 use Rattle.format.proofs.Tests.{or-none}
 use Rattle.layout.specs.declared.columns.Family.{Family}
 use Rattle.layout.specs.declared.columns.Family.the-variants.{Pre, Post, FrameStart, FrameEnd}
-use Rattle.frames.specs.Accepted.{Accepted}
-use Rattle.frames.specs.Input.{rowsOf, blocksOf}
+use Rattle.frames.specs.Inner.{Accepted}
+use Rattle.game.specs.Frames.{rowsOf, slotBlocks}
 use Rattle.frames.specs.Judge.{refusals}
-use Rattle.frames.specs.Stores.{Lent, cellsOf}
-use Rattle.frames.specs.declared.input.Frames.{Frames}
-use Rattle.frames.proofs.Accepted.{accepted}
-use Rattle.transpose.specs.Judge.{orElse, outside, refusal}
-use Rattle.transpose.specs.Records.{Reachable}
-use Rattle.transpose.specs.Frame.{Showable}
+use Rattle.game.specs.Stores.{Lent, cellsOf}
+use Rattle.game.specs.declared.frames.Frames.{Frames}
+use Rattle.frames.proofs.Accepted.{numbered, accepted}
+use Rattle.transpose.specs.Judge.{outside, rowRefusal}
+use Rattle.transpose.specs.Inner.{Reachable, Showable}
 use Rattle.transpose.specs.Answers.{unlessRefused}
 
-first-kept : (n m k : ℕ) → n ≡ m → (n ≡ 0 → ⊥) → n ≡ orElse m k
-first-kept n zero k e ne = absurd (ne e)
-first-kept n (suc m) k e ne = e
-
 module _ (f : Frames) (s : Lent) (family : Family) (block row : ℕ) where
+  -- the place, which is judged last
+  abbrev last : List Refusal
+  last = refuse 13 (outside f family block row) ∷ []
+
   -- the first judge refuses
-  pub judged-refused : (n : ℕ) → n ≡ lowest 1 (refusals f s 0 0) → (n ≡ 0 → ⊥) → n ≡ refusal f s family block row
-  unfolding refusal
-  judged-refused n e ne = first-kept n (lowest 1 (refusals f s 0 0)) (cond (outside f family block row) 13 0) e ne
+  pub judged-refused : (n : ℕ) → n ≡ lowest (refusals f s 0 0) → (n ≡ 0 → ⊥) → n ≡ rowRefusal f s family block row
+  unfolding rowRefusal
+  judged-refused n e ne = e ∙ sym (lowest-before (refusals f s 0 0) last (λ z. ne (e ∙ z)))
 
   -- it does not, and the place decides
-  pub place-refused : lowest 1 (refusals f s 0 0) ≡ 0 → outside f family block row ≡ true → 13 ≡ refusal f s family block row
-  unfolding refusal
-  place-refused e t = rw (e, t)
+  place-decides : lowest (refusals f s 0 0) ≡ 0 → rowRefusal f s family block row ≡ lowest last
+  unfolding rowRefusal
+  place-decides e = lowest-after (refusals f s 0 0) last (numbered f s 0 0) e
 
-  pub not-refused : lowest 1 (refusals f s 0 0) ≡ 0 → outside f family block row ≡ false → 0 ≡ refusal f s family block row
-  unfolding refusal
-  not-refused e t = rw (e, t)
+  pub place-refused : lowest (refusals f s 0 0) ≡ 0 → outside f family block row ≡ true → 13 ≡ rowRefusal f s family block row
+  place-refused e t = here _ _ _ t ∙ sym (place-decides e)
 
-  module _ (e : refusal f s family block row ≡ 0) where
-    both-none : (lowest 1 (refusals f s 0 0) ≡ 0) × (outside f family block row ≡ false)
-    unfolding refusal
-    both-none = go (lowest 1 (refusals f s 0 0)) refl (outside f family block row) refl e
-      where
-        go : (n : ℕ) → lowest 1 (refusals f s 0 0) ≡ n → (t : Bool) → outside f family block row ≡ t → orElse n (cond t 13 0) ≡ 0
-            → (lowest 1 (refusals f s 0 0) ≡ 0) × (outside f family block row ≡ false)
-        go zero a true b q = absurd (omega arith)
-        go zero a false b q = (a, b)
-        go (suc n) a t b q = absurd (omega arith)
+  pub not-refused : lowest (refusals f s 0 0) ≡ 0 → outside f family block row ≡ false → 0 ≡ rowRefusal f s family block row
+  not-refused e t = skip _ _ _ _ t none ∙ sym (place-decides e)
+
+  module _ (e : rowRefusal f s family block row ≡ 0) where
+    first-none : lowest (refusals f s 0 0) ≡ 0
+    unfolding rowRefusal
+    first-none = lowest-first (refusals f s 0 0) last e
+
+    not-outside : outside f family block row ≡ false
+    not-outside = passed _ _ _ (sym (place-decides first-none) ∙ e) .0
 
     -- nothing is refused: the stores are accepted, and the place is in them
     pub row-accepted : Accepted f s
-    row-accepted = accepted f s 0 0 (both-none .0)
+    row-accepted = accepted f s 0 0 first-none
 
-    inside : (block < blocksOf f family) × (row < rowsOf f family)
+    inside : (block < slotBlocks f family) × (row < rowsOf f family)
     unfolding outside
     inside =
-        let (a, b) = or-none (leb (blocksOf f family) block) (leb (rowsOf f family) row) (both-none .1) in
-        (leb-false (blocksOf f family) block a, leb-false (rowsOf f family) row b)
+        let (a, b) = or-none (leb (slotBlocks f family) block) (leb (rowsOf f family) row) not-outside in
+        (leb-false (slotBlocks f family) block a, leb-false (rowsOf f family) row b)
 
     pub reachable : Reachable f family (cellsOf (s .cells) family) block row
     reachable = record { store = row-accepted .stores family; block-in = inside .0; row-in = inside .1 }
 
 -- all of a frame is there
-pub showable : (f : Frames) (s : Lent) (index : ℕ) → refusal f s FrameStart 0 index ≡ 0
+pub showable : (f : Frames) (s : Lent) (index : ℕ) → rowRefusal f s FrameStart 0 index ≡ 0
     → Showable f (s .cells .ids) (s .cells .starts) (s .cells .pres) (s .cells .posts) (s .cells .ends) (s .offsets) index
 showable f s index e =
     let a = row-accepted f s FrameStart 0 index e in
@@ -87,7 +86,7 @@ unfolding unlessRefused
 given-none zero row none e ne = absurd (ne e)
 given-none (suc m) row none e ne = refl
 
-given-row : {A : Type 0} (m : ℕ) (row none : A) → m ≡ 0 → row ≡ unlessRefused m row none
+pub given-row : {A : Type 0} (m : ℕ) (row none : A) → m ≡ 0 → row ≡ unlessRefused m row none
 unfolding unlessRefused
 given-row m row none e = rw e
 

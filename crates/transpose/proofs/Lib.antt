@@ -2,4 +2,5 @@ pub mod Judged
 pub mod Reach
 pub mod Slotting
 pub mod Only
+pub mod Floats
 pub mod Cases

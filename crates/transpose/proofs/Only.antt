@@ -2,8 +2,8 @@
 -- Assumes nothing.
 use mathlib.Core.Path.{_≡_, sym, _∙_}
 use Prim.Native.Nat.{ℕ}
-use Rattle.frames.specs.Stores.{Lent}
-use Rattle.frames.specs.declared.input.Frames.{Frames}
+use Rattle.game.specs.Stores.{Lent}
+use Rattle.game.specs.declared.frames.Frames.{Frames}
 use Rattle.transpose.specs.Answers.{frameRow, preRow, postRow, itemRow, fodPlatformRow, dreamlandWhispyRow, stadiumTransformationRow}
 use Rattle.transpose.specs.declared.frame.FrameRow.{FrameRow}
 use Rattle.transpose.specs.declared.records.PreRow.{PreRow}

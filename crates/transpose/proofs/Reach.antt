@@ -8,26 +8,25 @@ use native.Mathlib.Omega.{arith}
 use lib.ListN.{length, getD}
 use Rattle.layout.specs.Columns.{widthsOf}
 use Rattle.layout.specs.declared.columns.Family.{Family}
-use Rattle.layout.proofs.Laws.{few-widths}
-use Rattle.frames.specs.Input.{rowsOf, blocksOf}
-use Rattle.frames.specs.declared.input.Frames.{Frames}
-use Rattle.rows.specs.Cells.{recordOf}
+use Rattle.game.specs.Frames.{rowsOf, slotBlocks}
+use Rattle.game.specs.declared.frames.Frames.{Frames}
+use Rattle.rows.specs.Cells.{rowCells}
 use Rattle.rows.proofs.Records.{within-record}
-use Rattle.transpose.specs.Records.{recordAt, Reachable, Fetched}
+use Rattle.transpose.specs.Records.{cellsAt}
+use Rattle.transpose.specs.Inner.{Reachable, Fetched}
 
-module _ {f : Frames} {family : Family} {cells : List ℕ} {block row : ℕ} (h : Reachable f family cells block row) (rows columns : ℕ) (r : rows ≡ rowsOf f family) (c : columns ≡ length (widthsOf family (f .version))) where
+module _ {f : Frames} {family : Family} {cells : List ℕ} {block row : ℕ} (h : Reachable f family cells block row) (rows : ℕ) (r : rows ≡ rowsOf f family) where
   -- a store has all of the block
-  pub reach : (columns ≤ 32) × (row < rows) × ((block + 1) * columns * rows ≤ length cells)
+  pub reach : (row < rows) × ((block + 1) * length (widthsOf family (f .version)) * rows ≤ length cells)
   reach =
-      let next : block + 1 ≤ blocksOf f family = omega (arith, h .block-in) in (
-        omega (arith, few-widths family (f .version)),
+      let next : block + 1 ≤ slotBlocks f family = omega (arith, h .block-in) in (
         omega (arith, h .row-in),
-        rw (c, r, mul-assoc, h .store .size) (mul-le-mul-right (length (widthsOf family (f .version)) * rowsOf f family) next),
+        rw (r, mul-assoc, h .store .size) (mul-le-mul-right (length (widthsOf family (f .version)) * rowsOf f family) next),
       )
 
-  pub fetched : {raw : List ℕ} → raw ≡ recordOf cells rows columns block row → Fetched f family cells block row raw
+  pub fetched : {raw : List ℕ} → raw ≡ rowCells family (f .version) cells rows block row → Fetched f family cells block row raw
   fetched {raw} e =
-      let is : raw ≡ recordAt f family cells block row = rw (r, c) at e in
+      let is : raw ≡ cellsAt f family cells block row = rw r at e in
       record {
         is = is;
         within = rw is

@@ -1,22 +1,20 @@
 -- The row of a whole frame.
 -- Assumes nothing.
 use Prim.Native.Nat.{ℕ, _+_, _-_}
-use mathlib.Core.Path.{_≡_}
 use mathlib.Core.Bool.{cond}
 use mathlib.Core.List.{List, [], _∷_}
 use mir.Syntax.{w32}
 use mir.Val.{toZ}
 use lib.IntN.{pos}
-use lib.ListN.{length, getD}
+use lib.ListN.{getD}
 use Rattle.layout.specs.Columns.{hasFamily}
 use Rattle.layout.specs.declared.columns.Family.{Family}
 use Rattle.layout.specs.declared.columns.Family.the-variants as family
-use Rattle.frames.specs.Accepted.{Placed}
-use Rattle.frames.specs.Stores.{Offsets, Lent}
-use Rattle.frames.specs.declared.input.Frames.{Frames}
-use Rattle.rows.specs.Rows.{startOf, endOf, noStart, noEnd}
-use Rattle.transpose.specs.Records.{recordAt, Reachable}
-use Rattle.transpose.specs.Ports.{noPortData, portsAt, Played}
+use Rattle.game.specs.Stores.{Offsets, Lent}
+use Rattle.game.specs.declared.frames.Frames.{Frames}
+use Rattle.rows.specs.Rows.{frameStartOf, frameEndOf, noFrameStart, noFrameEnd, noVersion}
+use Rattle.transpose.specs.Records.{cellsAt}
+use Rattle.transpose.specs.Ports.{noPortData, portsAt}
 use Rattle.transpose.specs.declared.frame.Range.{Range}
 use Rattle.transpose.specs.declared.frame.Frame.{Frame}
 
@@ -29,11 +27,12 @@ rangeAt f family os index = cond (hasFamily (f .version) family) (record { first
 
 abbrev pub noFrame : Frame
 noFrame = record {
+  version = noVersion;
   id = pos 0;
   «port_count» = 0;
   ports = noPortData ∷ noPortData ∷ noPortData ∷ noPortData ∷ [];
-  start = noStart;
-  end = noEnd;
+  start = noFrameStart;
+  end = noFrameEnd;
   items = noRange;
   «fod_platforms» = noRange;
   «dreamland_whispys» = noRange;
@@ -42,11 +41,12 @@ noFrame = record {
 
 abbrev pub frameOf : Frames → (ids starts pres posts ends : List ℕ) → Offsets → ℕ → Frame
 frameOf f ids starts pres posts ends o index = record {
+  version = f .version;
   id = toZ w32 (getD ids index 0);
   «port_count» = f .«port_count»;
   ports = portsAt f pres posts index;
-  start = startOf (recordAt f family.FrameStart starts 0 index) (f .version);
-  end = endOf (recordAt f family.FrameEnd ends 0 index) (f .version);
+  start = frameStartOf (cellsAt f family.FrameStart starts 0 index) (f .version);
+  end = frameEndOf (cellsAt f family.FrameEnd ends 0 index) (f .version);
   items = rangeAt f family.Item (o .items) index;
   «fod_platforms» = rangeAt f family.FodPlatform (o .fods) index;
   «dreamland_whispys» = rangeAt f family.DreamlandWhispy (o .whispys) index;
@@ -55,14 +55,3 @@ frameOf f ids starts pres posts ends o index = record {
 
 abbrev pub frameAt : Frames → Lent → ℕ → Frame
 frameAt f s index = frameOf f (s .cells .ids) (s .cells .starts) (s .cells .pres) (s .cells .posts) (s .cells .ends) (s .offsets) index
-
--- stores and offsets that were judged, and a frame
-pub record Showable (f : Frames) (ids starts pres posts ends : List ℕ) (o : Offsets) (index : ℕ) : Type 0 where
-  pub ids-fit : length ids ≡ f .counts .frames
-  pub start : Reachable f family.FrameStart starts 0 index
-  pub end : Reachable f family.FrameEnd ends 0 index
-  pub players : Played f pres posts index
-  pub items : Placed f family.Item (o .items)
-  pub fods : Placed f family.FodPlatform (o .fods)
-  pub whispys : Placed f family.DreamlandWhispy (o .whispys)
-  pub stadiums : Placed f family.StadiumTransformation (o .stadiums)

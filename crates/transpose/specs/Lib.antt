@@ -3,3 +3,4 @@ pub mod Records
 pub mod Ports
 pub mod Frame
 pub mod Answers
+pub mod Inner

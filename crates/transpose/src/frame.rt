@@ -1,24 +1,26 @@
 // The row of a whole frame.
 ghost use mathlib.Core.Path.{_≡_};
 ghost use Prim.Native.Nat.{_<_};
-ghost use Rattle.frames.specs.Accepted.{Placed};
-ghost use Rattle.frames.specs.Stores.{cells, offsets, lent};
-ghost use Rattle.transpose.specs.Frame.{noRange, rangeAt, noFrame, frameOf, Showable};
+ghost use Rattle.frames.specs.Inner.{Placed};
+ghost use Rattle.game.specs.Stores.{cells, offsets, lent};
+ghost use Rattle.transpose.specs.Frame.{noRange, rangeAt, noFrame, frameOf};
+ghost use Rattle.transpose.specs.Inner.{Showable};
 ghost use Rattle.transpose.specs.Answers.{frameRow};
-use super::fetch::end_at;
-use super::fetch::start_at;
-use super::judge::refused;
+use super::fetch::frame_end_at;
+use super::fetch::frame_start_at;
+use super::judge::row_refused;
 use super::ports::no_port;
 use super::ports::ports_at;
 use format::signed::signed32;
-use frames::input::Frames;
+use format::version::Version;
+use game::frames::Frames;
 use layout::columns::Family;
 use rows::post::Post;
 use rows::pre::Pre;
-use rows::small::End;
-use rows::small::Start;
-use rows::small::no_end;
-use rows::small::no_start;
+use rows::small::FrameEnd;
+use rows::small::FrameStart;
+use rows::small::no_frame_end;
+use rows::small::no_frame_start;
 
 // What a player does in a frame.
 #[repr(C)]
@@ -45,11 +47,12 @@ pub struct Range {
 
 #[repr(C)]
 pub struct Frame {
+    pub version: Version,
     pub id: i32,
     pub port_count: usize,
     pub ports: [PortData; 4],
-    pub start: Start,
-    pub end: End,
+    pub start: FrameStart,
+    pub end: FrameEnd,
     pub items: Range,
     pub fod_platforms: Range,
     pub dreamland_whispys: Range,
@@ -89,9 +92,11 @@ fn no_frame() -> Frame
 {
     let none = no_port();
     let ports = [none, none, none, none];
-    let start = no_start();
-    let end = no_end();
+    let start = no_frame_start();
+    let end = no_frame_end();
+    let version = Version::new(0, 0, 0);
     Frame {
+        version,
         id: 0,
         port_count: 0,
         ports,
@@ -117,13 +122,15 @@ fn frame_at(
     stadium_offsets: &[u32],
     index: usize,
 ) -> Frame
-    requires { ⌜ Showable f (now ids) (now starts) (now pres) (now posts) (now ends) (offsets (now «item_offsets») (now «fod_offsets») (now «whispy_offsets») (now «stadium_offsets»)) index ⌝ }
-    ensures { λ r. ⌜ r ≡ frameOf f (now (ids .entry)) (now (starts .entry)) (now (pres .entry)) (now (posts .entry)) (now (ends .entry)) (offsets (now («item_offsets» .entry)) (now («fod_offsets» .entry)) (now («whispy_offsets» .entry)) (now («stadium_offsets» .entry))) index ⌝ }
+    requires { ⌜ Showable f (now ids) (now starts) (now pres) (now posts) (now ends)
+        (offsets (now «item_offsets») (now «fod_offsets») (now «whispy_offsets») (now «stadium_offsets»)) index ⌝ }
+    ensures { λ r. ⌜ r ≡ frameOf f (now (ids .entry)) (now (starts .entry)) (now (pres .entry)) (now (posts .entry)) (now (ends .entry))
+        (offsets (now («item_offsets» .entry)) (now («fod_offsets» .entry)) (now («whispy_offsets» .entry)) (now («stadium_offsets» .entry))) index ⌝ }
 {
     let id = signed32(ids[index]);
     let ports = ports_at(f, pres, posts, index);
-    let start = start_at(f, starts, index);
-    let end = end_at(f, ends, index);
+    let start = frame_start_at(f, starts, index);
+    let end = frame_end_at(f, ends, index);
     let items = range_at(f, Family::Item, item_offsets, index);
     let fod_platforms = range_at(f, Family::FodPlatform, fod_offsets, index);
     let dreamland_whispys = range_at(f, Family::DreamlandWhispy, whispy_offsets, index);
@@ -133,7 +140,9 @@ fn frame_at(
         stadium_offsets,
         index,
     );
+    let version = f.version;
     Frame {
+        version,
         id,
         port_count: f.port_count,
         ports,
@@ -165,11 +174,12 @@ pub fn frame_row(
     index: usize,
 ) -> FrameRow
     ensures { λ r. ⌜ r ≡ frameRow f (lent
-        (cells (now (ids .entry)) (now (starts .entry)) (now (pres .entry)) (now (posts .entry)) (now (ends .entry)) (now (items .entry)) (now (fods .entry)) (now (whispys .entry)) (now (stadiums .entry)))
+        (cells (now (ids .entry)) (now (starts .entry)) (now (pres .entry)) (now (posts .entry)) (now (ends .entry))
+        (now (items .entry)) (now (fods .entry)) (now (whispys .entry)) (now (stadiums .entry)))
         (offsets (now («item_offsets» .entry)) (now («fod_offsets» .entry)) (now («whispy_offsets» .entry)) (now («stadium_offsets» .entry)))
         (now (presence .entry))) index ⌝ }
 {
-    let n = refused(
+    let n = row_refused(
         f,
         ids,
         starts,

@@ -1,10 +1,11 @@
 // Refusals 1 to 7 and 13.
 ghost use mathlib.Core.Path.{_≡_};
-ghost use Rattle.frames.specs.Stores.{cells, offsets, lent};
-ghost use Rattle.transpose.specs.Judge.{outside, refusal};
-use frames::input::Frames;
-use frames::slots::blocks;
+ghost use Rattle.game.specs.Stores.{cells, offsets, lent};
+ghost use Rattle.transpose.specs.Judge.{outside, rowRefusal};
+use format::refusal::OUT_OF_RANGE;
+use game::frames::Frames;
 use layout::columns::Family;
+use players::slots::blocks;
 
 // Whether a family has no such block, or no such row in it.
 fn is_outside(f: Frames, family: Family, block: usize, row: usize) -> bool
@@ -13,7 +14,7 @@ fn is_outside(f: Frames, family: Family, block: usize, row: usize) -> bool
     (blocks(f, family) <= block) | (f.rows(family) <= row)
 }
 
-pub fn refused(
+pub fn row_refused(
     f: Frames,
     ids: &[u32],
     starts: &[u32],
@@ -33,8 +34,9 @@ pub fn refused(
     block: usize,
     row: usize,
 ) -> u8
-    ensures { λ r. ⌜ r ≡ refusal f (lent
-        (cells (now (ids .entry)) (now (starts .entry)) (now (pres .entry)) (now (posts .entry)) (now (ends .entry)) (now (items .entry)) (now (fods .entry)) (now (whispys .entry)) (now (stadiums .entry)))
+    ensures { λ r. ⌜ r ≡ rowRefusal f (lent
+        (cells (now (ids .entry)) (now (starts .entry)) (now (pres .entry)) (now (posts .entry)) (now (ends .entry))
+        (now (items .entry)) (now (fods .entry)) (now (whispys .entry)) (now (stadiums .entry)))
         (offsets (now («item_offsets» .entry)) (now («fod_offsets» .entry)) (now («whispy_offsets» .entry)) (now («stadium_offsets» .entry)))
         (now (presence .entry))) family block row ⌝ }
 {
@@ -61,7 +63,7 @@ pub fn refused(
         return n;
     }
     if is_outside(f, family, block, row) {
-        return 13;
+        return OUT_OF_RANGE;
     }
     0
 }

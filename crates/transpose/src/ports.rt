@@ -1,14 +1,13 @@
 // The players of a frame, by their port columns.
 ghost use mathlib.Core.Path.{_≡_};
-ghost use Prim.Native.Nat.{_≤_, _<_};
-ghost use lib.ListN.{length};
-ghost use Rattle.frames.specs.Input.{portsOf};
-ghost use Rattle.transpose.specs.Ports.{noData, dataAt, Playing, firstSlot, noPortData, portAt, portsAt, Played};
+ghost use Rattle.transpose.specs.Ports.{noData, dataAt, noPortData, portAt, portsAt};
+ghost use Rattle.transpose.specs.Inner.{Playing, Played};
 use super::fetch::post_at;
 use super::fetch::pre_at;
 use super::frame::Data;
 use super::frame::PortData;
-use frames::input::Frames;
+use game::frames::Frames;
+use players::slots::slots_before;
 use rows::post::no_post;
 use rows::pre::no_pre;
 
@@ -27,24 +26,6 @@ fn data_at(f: Frames, pres: &[u32], posts: &[u32], slot: usize, index: usize) ->
     let pre = pre_at(f, pres, slot, index);
     let post = post_at(f, posts, slot, index);
     Data { pre, post }
-}
-
-// How many slots the first k port columns have.
-fn first_slot(f: Frames, k: usize) -> usize
-    requires { ⌜ k ≤ length (portsOf f) ⌝ }
-    ensures { λ r. ⌜ r ≡ firstSlot f k ⌝ }
-{
-    let mut n: usize = 0;
-    let mut j: usize = 0;
-    while j < k {
-        let p = f.port(j);
-        j += 1;
-        n += 1;
-        if p.has_follower() {
-            n += 1;
-        }
-    }
-    n
 }
 
 pub fn no_port() -> PortData
@@ -68,7 +49,7 @@ fn port_at(f: Frames, pres: &[u32], posts: &[u32], index: usize, k: usize) -> Po
         return no_port();
     }
     let p = f.port(k);
-    let slot = first_slot(f, k);
+    let slot = slots_before(f, k);
     let leader = data_at(f, pres, posts, slot, index);
     if p.has_follower() {
         let follower = data_at(f, pres, posts, slot + 1, index);

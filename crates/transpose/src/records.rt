@@ -1,6 +1,6 @@
 // The public calls for the row of one record: each judges all that is lent, and answers a number, 0 where the row is given, beside the row.
 ghost use mathlib.Core.Path.{_≡_};
-ghost use Rattle.frames.specs.Stores.{cells, offsets, lent};
+ghost use Rattle.game.specs.Stores.{cells, offsets, lent};
 ghost use Rattle.transpose.specs.Answers.{preRow, postRow, itemRow, fodPlatformRow, dreamlandWhispyRow, stadiumTransformationRow};
 use super::fetch::dreamland_whispy_at;
 use super::fetch::fod_platform_at;
@@ -8,8 +8,8 @@ use super::fetch::item_at;
 use super::fetch::post_at;
 use super::fetch::pre_at;
 use super::fetch::stadium_transformation_at;
-use super::judge::refused;
-use frames::input::Frames;
+use super::judge::row_refused;
+use game::frames::Frames;
 use layout::columns::Family;
 use rows::item::Item;
 use rows::item::no_item;
@@ -80,11 +80,12 @@ pub fn pre_row(
     index: usize,
 ) -> PreRow
     ensures { λ r. ⌜ r ≡ preRow f (lent
-        (cells (now (ids .entry)) (now (starts .entry)) (now (pres .entry)) (now (posts .entry)) (now (ends .entry)) (now (items .entry)) (now (fods .entry)) (now (whispys .entry)) (now (stadiums .entry)))
+        (cells (now (ids .entry)) (now (starts .entry)) (now (pres .entry)) (now (posts .entry)) (now (ends .entry))
+        (now (items .entry)) (now (fods .entry)) (now (whispys .entry)) (now (stadiums .entry)))
         (offsets (now («item_offsets» .entry)) (now («fod_offsets» .entry)) (now («whispy_offsets» .entry)) (now («stadium_offsets» .entry)))
         (now (presence .entry))) slot index ⌝ }
 {
-    let n = refused(
+    let n = row_refused(
         f,
         ids,
         starts,
@@ -132,11 +133,12 @@ pub fn post_row(
     index: usize,
 ) -> PostRow
     ensures { λ r. ⌜ r ≡ postRow f (lent
-        (cells (now (ids .entry)) (now (starts .entry)) (now (pres .entry)) (now (posts .entry)) (now (ends .entry)) (now (items .entry)) (now (fods .entry)) (now (whispys .entry)) (now (stadiums .entry)))
+        (cells (now (ids .entry)) (now (starts .entry)) (now (pres .entry)) (now (posts .entry)) (now (ends .entry))
+        (now (items .entry)) (now (fods .entry)) (now (whispys .entry)) (now (stadiums .entry)))
         (offsets (now («item_offsets» .entry)) (now («fod_offsets» .entry)) (now («whispy_offsets» .entry)) (now («stadium_offsets» .entry)))
         (now (presence .entry))) slot index ⌝ }
 {
-    let n = refused(
+    let n = row_refused(
         f,
         ids,
         starts,
@@ -183,11 +185,12 @@ pub fn item_row(
     index: usize,
 ) -> ItemRow
     ensures { λ r. ⌜ r ≡ itemRow f (lent
-        (cells (now (ids .entry)) (now (starts .entry)) (now (pres .entry)) (now (posts .entry)) (now (ends .entry)) (now (items .entry)) (now (fods .entry)) (now (whispys .entry)) (now (stadiums .entry)))
+        (cells (now (ids .entry)) (now (starts .entry)) (now (pres .entry)) (now (posts .entry)) (now (ends .entry))
+        (now (items .entry)) (now (fods .entry)) (now (whispys .entry)) (now (stadiums .entry)))
         (offsets (now («item_offsets» .entry)) (now («fod_offsets» .entry)) (now («whispy_offsets» .entry)) (now («stadium_offsets» .entry)))
         (now (presence .entry))) index ⌝ }
 {
-    let n = refused(
+    let n = row_refused(
         f,
         ids,
         starts,
@@ -234,11 +237,12 @@ pub fn fod_platform_row(
     index: usize,
 ) -> FodPlatformRow
     ensures { λ r. ⌜ r ≡ fodPlatformRow f (lent
-        (cells (now (ids .entry)) (now (starts .entry)) (now (pres .entry)) (now (posts .entry)) (now (ends .entry)) (now (items .entry)) (now (fods .entry)) (now (whispys .entry)) (now (stadiums .entry)))
+        (cells (now (ids .entry)) (now (starts .entry)) (now (pres .entry)) (now (posts .entry)) (now (ends .entry))
+        (now (items .entry)) (now (fods .entry)) (now (whispys .entry)) (now (stadiums .entry)))
         (offsets (now («item_offsets» .entry)) (now («fod_offsets» .entry)) (now («whispy_offsets» .entry)) (now («stadium_offsets» .entry)))
         (now (presence .entry))) index ⌝ }
 {
-    let n = refused(
+    let n = row_refused(
         f,
         ids,
         starts,
@@ -285,11 +289,12 @@ pub fn dreamland_whispy_row(
     index: usize,
 ) -> DreamlandWhispyRow
     ensures { λ r. ⌜ r ≡ dreamlandWhispyRow f (lent
-        (cells (now (ids .entry)) (now (starts .entry)) (now (pres .entry)) (now (posts .entry)) (now (ends .entry)) (now (items .entry)) (now (fods .entry)) (now (whispys .entry)) (now (stadiums .entry)))
+        (cells (now (ids .entry)) (now (starts .entry)) (now (pres .entry)) (now (posts .entry)) (now (ends .entry))
+        (now (items .entry)) (now (fods .entry)) (now (whispys .entry)) (now (stadiums .entry)))
         (offsets (now («item_offsets» .entry)) (now («fod_offsets» .entry)) (now («whispy_offsets» .entry)) (now («stadium_offsets» .entry)))
         (now (presence .entry))) index ⌝ }
 {
-    let n = refused(
+    let n = row_refused(
         f,
         ids,
         starts,
@@ -336,11 +341,12 @@ pub fn stadium_transformation_row(
     index: usize,
 ) -> StadiumTransformationRow
     ensures { λ r. ⌜ r ≡ stadiumTransformationRow f (lent
-        (cells (now (ids .entry)) (now (starts .entry)) (now (pres .entry)) (now (posts .entry)) (now (ends .entry)) (now (items .entry)) (now (fods .entry)) (now (whispys .entry)) (now (stadiums .entry)))
+        (cells (now (ids .entry)) (now (starts .entry)) (now (pres .entry)) (now (posts .entry)) (now (ends .entry))
+        (now (items .entry)) (now (fods .entry)) (now (whispys .entry)) (now (stadiums .entry)))
         (offsets (now («item_offsets» .entry)) (now («fod_offsets» .entry)) (now («whispy_offsets» .entry)) (now («stadium_offsets» .entry)))
         (now (presence .entry))) index ⌝ }
 {
-    let n = refused(
+    let n = row_refused(
         f,
         ids,
         starts,

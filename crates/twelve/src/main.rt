@@ -1,18 +1,18 @@
 // Runs the twelve cases through the public calls, and prints a line of each: its number, and the numbers of its rows in the table.
+use case_runs::row::Row;
+use case_runs::run::blocks_7;
+use case_runs::run::blocks_8;
+use case_runs::run::case_1;
+use case_runs::run::case_7;
+use case_runs::run::case_8;
+use case_runs::run::case_9;
+use case_runs::run::case_12;
+use case_runs::run::codes_9;
+use case_runs::run::cut;
+use case_runs::run::masked;
+use case_runs::run::patch_level;
 use libc::STDOUT_FILENO;
 use rollback::frame::Rollbacks;
-use runs::row::Row;
-use runs::run::blocks_7;
-use runs::run::blocks_8;
-use runs::run::case_1;
-use runs::run::case_7;
-use runs::run::case_8;
-use runs::run::case_9;
-use runs::run::case_12;
-use runs::run::codes_9;
-use runs::run::cut;
-use runs::run::masked;
-use runs::run::patch_level;
 
 fn show_number(n: usize) {
     let mut text = [0u8; 20];

@@ -1,10 +1,13 @@
-// Reads a whole replay on standard input, the smallest one, and prints the line of it whole, cut and damaged.
+// Reads the smallest replay and 70,000 zeros behind it on standard input, and prints the line of it whole, cut, damaged, and followed by
+// more bytes than an input may have.
+ghost use Prim.Native.Nat.{_≤_, _<_};
+ghost use lib.ListN.{length};
 use libc::STDIN_FILENO;
 use libc::STDOUT_FILENO;
 
 fn show(input: &[u8]) {
     let mut text = [0u8; 64];
-    let k = line::report(input, &mut text);
+    let k = walk_line::report(input, &mut text);
     io::write_all(STDOUT_FILENO, &text[..k]);
 }
 
@@ -13,6 +16,15 @@ fn show_cut(file: &[u8], n: usize) {
     if n <= file.len() {
         show(&file[..n]);
     }
+}
+
+// What was read, as the program `walk` shows it.
+fn show_read(buffer: &[u8], n: usize)
+    requires { ⌜ (65536 < length (now buffer)) × (n ≤ length (now buffer)) ⌝ }
+{
+    let mut text = [0u8; 64];
+    let k = walk_line::report_read(buffer, n, &mut text);
+    io::write_all(STDOUT_FILENO, &text[..k]);
 }
 
 // The first n bytes, with another byte at a place.
@@ -71,18 +83,21 @@ fn events(file: &mut [u8]) {
     show_changed(file, 349, 19, 0x41);
 }
 
-// The longest input, and one byte more.
-fn longest(file: &[u8]) {
+// The longest input, one byte more, and all of standard input as the program `walk` reads it.
+fn longest(file: &[u8], n: usize)
+    requires { ⌜ (65536 < length (now file)) × (n ≤ length (now file)) ⌝ }
+{
     show_cut(file, 65536);
     show_cut(file, 65537);
+    show_read(file, n);
 }
 
 fn main() {
     let mut file = [0u8; 65537];
-    io::read_full(STDIN_FILENO, &mut file);
+    let n = io::read_full(STDIN_FILENO, &mut file);
     cuts(&file);
     heads(&mut file);
     lengths(&mut file);
     events(&mut file);
-    longest(&file);
+    longest(&file, n);
 }

@@ -107,7 +107,7 @@ fn blocks(case: &Case, file: &[u8]) -> Result<(), String> {
 	}
 	let entry = file[17..].chunks(3).find(|entry| entry[0] == 0x3d).unwrap();
 	let size = u16::from_be_bytes([entry[1], entry[2]]) as usize;
-	let first = 16 + file[16] as usize + 1 + case.template.len();
+	let first = slp::first_place(file) + 1 + case.template.len();
 	let count = actual.div_ceil(512);
 	let right = (0..count).all(|k| {
 		let block = &file[first + 517 * k..][..517];

@@ -10,12 +10,10 @@ fn main() -> std::io::Result<()> {
 		std::process::exit(2)
 	};
 	let file = std::fs::read(path)?;
-	if file.len() > 16 {
-		let mut place = 16 + usize::from(file[16]);
-		while let Ok(Step::Event { code, at, len, next, .. }) = slp::step_at(&file, place) {
-			println!("{code:02x} at {at}, {len} bytes");
-			place = next;
-		}
+	let mut place = slp::first_place(&file);
+	while let Ok(Step::Event { code, at, len, next, .. }) = slp::step_at(&file, place) {
+		println!("{code:02x} at {at}, {len} bytes");
+		place = next;
 	}
 	match slp::walk(&file) {
 		Err(refused) => println!("refused {} at {}", refused.number, refused.offset),

@@ -2,7 +2,7 @@
 //!
 //!     cargo run --example write_game game.slp
 
-use slp::{Counts, End, Game, Optional, PortColumn, Stores, Version};
+use slp::{columns, Counts, End, Game, Optional, PortColumn, Stores, Version};
 
 /// No frames, no end, at version 0.1.0.
 fn smallest(out: &mut [u8]) -> Result<usize, u8> {
@@ -24,10 +24,10 @@ fn one_frame(out: &mut [u8]) -> Result<usize, u8> {
 	(game.start.scene.given, game.start.match_info.given) = (1, 1);
 	let stores = Stores {
 		ids: &[-123i32 as u32],
-		starts: &[0; 2],
-		pres: &[0; 19],
-		posts: &[0; 32],
-		ends: &[0; 1],
+		starts: &[0; columns::frame_start::COLUMNS],
+		pres: &[0; columns::pre::COLUMNS],
+		posts: &[0; columns::post::COLUMNS],
+		ends: &[0; columns::frame_end::COLUMNS],
 		item_offsets: &[0, 0],
 		fod_offsets: &[0, 0],
 		whispy_offsets: &[0, 0],

@@ -30,14 +30,16 @@ mod stores;
 
 mod raw;
 
+pub mod columns;
 mod masks;
 mod reader;
 pub mod rows;
 mod write;
 
+pub use columns::Family;
 pub use game::*;
 pub use masks::{rollbacks, scratch_len, Rollbacks};
-pub use reader::{step_at, walk, Refused, Step, Walked};
+pub use reader::{first_place, step_at, walk, Refused, Step, Walked};
 pub use refusals::refusal_words;
 pub use stores::Stores;
 pub use write::write;

@@ -1,7 +1,7 @@
 //! The calls of libslp.a as slp.h declares them: a slice is a pointer and a count of elements.
 
 use crate::{
-	game::{Frames, Game},
+	game::{Frames, Game, Version},
 	records,
 };
 
@@ -40,6 +40,10 @@ pub struct Answer<T> {
 }
 
 extern "C" {
+	pub fn slp_columns(version: Version, family: u8) -> usize;
+
+	pub fn slp_first_place(file: *const u8, file_len: usize) -> usize;
+
 	pub fn slp_step_at(file: *const u8, file_len: usize, place: usize) -> Step;
 
 	pub fn slp_walk(file: *const u8, file_len: usize) -> Walked;

@@ -20,7 +20,13 @@ pub enum Step {
 	Cut,
 }
 
-/// The event at a place of a replay, whole or cut. The first one after the payload table stands at 16 + `file[16]`.
+/// Where the events of a replay start: after its payload table. Of a file that is refused 14 or 15 the number means nothing.
+pub fn first_place(file: &[u8]) -> usize {
+	// SAFETY: the pointer comes with the length of its slice, and the call keeps nothing.
+	unsafe { raw::slp_first_place(file.as_ptr(), file.len()) }
+}
+
+/// The event at a place of a replay, whole or cut. The first one after the payload table stands at [`first_place`].
 ///
 /// ```
 /// let mut game = slp::Game::default();
@@ -29,7 +35,7 @@ pub enum Step {
 /// let mut file = [0; 351];
 /// slp::write(&game, &stores, &mut file).unwrap();
 ///
-/// let mut place = 16 + file[16] as usize;
+/// let mut place = slp::first_place(&file);
 /// let mut codes = Vec::new();
 /// while let slp::Step::Event { code, next, .. } = slp::step_at(&file, place).unwrap() {
 ///     codes.push(code);

@@ -194,6 +194,7 @@ pub struct Range {
 #[repr(C)]
 #[derive(Clone, Copy, Debug, Default, PartialEq)]
 pub struct Frame {
+	pub version: Version,
 	pub id: i32,
 	pub port_count: usize,
 	/// in the order of the port columns; the rest is all 0

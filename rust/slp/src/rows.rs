@@ -4,12 +4,13 @@
 //! float field is the float of its cell, and all patterns of a NaN are one NaN there, so look into `bits` for the pattern.
 //!
 //! ```
-//! // One frame of version 0.1.0 with one player: Pre has 14 columns, Post has 11, of which the sixth is the percent.
+//! // One frame of version 0.1.0 with one player.
 //! let mut frames = slp::Frames { port_count: 1, ..Default::default() };
 //! (frames.version.minor, frames.counts.frames) = (1, 1);
-//! let mut posts = [0; 11];
-//! posts[5] = 12.5f32.to_bits();
-//! let stores = slp::Stores { ids: &[0], pres: &[0; 14], posts: &posts, ..Default::default() };
+//! let pres = vec![0; slp::Family::Pre.columns(frames.version)];
+//! let mut posts = vec![0; slp::Family::Post.columns(frames.version)];
+//! posts[slp::columns::post::PERCENT] = 12.5f32.to_bits();
+//! let stores = slp::Stores { ids: &[0], pres: &pres, posts: &posts, ..Default::default() };
 //!
 //! let row = slp::rows::frame_row(&frames, &stores, 0).unwrap();
 //! assert_eq!((row.id, row.port_count, row.ports[0].leader.post.percent), (0, 1, 12.5));

@@ -7,7 +7,7 @@ use slp::{Refused, Step};
 
 /// The codes of a file's events, step by step.
 fn codes(file: &[u8]) -> Vec<u8> {
-	let mut place = 16 + usize::from(file[16]);
+	let mut place = slp::first_place(file);
 	let mut codes = Vec::new();
 	while let Step::Event { code, at, next, .. } = slp::step_at(file, place).unwrap() {
 		assert_eq!(at, place);
@@ -39,7 +39,7 @@ fn events_come_in_order() {
 #[test]
 fn a_cut_file_keeps_its_whole_events() {
 	let file = Made::new().write().unwrap();
-	let (all, first) = (codes(&file), 16 + usize::from(file[16]));
+	let (all, first) = (codes(&file), slp::first_place(&file));
 	for cut in first..file.len() {
 		let walked = slp::walk(&file[..cut]).unwrap();
 		let left = codes_of_cut(&file[..cut]);
@@ -62,7 +62,7 @@ fn what_is_no_replay_is_refused() {
 	assert_eq!(slp::walk(&[]), Err(Refused { number: 14, offset: 0 }));
 	assert_eq!(slp::walk(&file[..14]), Err(Refused { number: 14, offset: 0 }));
 	assert_eq!(slp::walk(&file[..16]), Err(Refused { number: 15, offset: 15 }));
-	let first = 16 + usize::from(file[16]);
+	let first = slp::first_place(&file);
 	let mut unknown = file.clone();
 	unknown[first] = 0x99;
 	assert_eq!(slp::walk(&unknown), Err(Refused { number: 16, offset: first }));

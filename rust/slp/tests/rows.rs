@@ -2,8 +2,11 @@
 
 mod common;
 
-use common::{Made, FRAMES, POST_COLUMNS, PRE_COLUMNS};
-use slp::rows;
+use common::{Made, FRAMES};
+use slp::{
+	columns::{post, pre},
+	rows,
+};
 
 /// The cells of a row: those of each column at its place.
 fn cells(store: &[u32], columns: usize, slot: usize, frame: usize) -> Vec<u32> {
@@ -17,8 +20,8 @@ fn a_frame_has_its_players() {
 		let row = rows::frame_row(&made.game.frames, &made.stores(), index).unwrap();
 		assert_eq!((row.id, row.port_count, row.ports[0].port, row.ports[0].follower_given), (index as i32 - 123, 1, 1, 1));
 		for (slot, data) in [row.ports[0].leader, row.ports[0].follower].into_iter().enumerate() {
-			assert_eq!(data.pre.bits[..PRE_COLUMNS], cells(&made.pres, PRE_COLUMNS, slot, index));
-			assert_eq!(data.post.bits[..POST_COLUMNS], cells(&made.posts, POST_COLUMNS, slot, index));
+			assert_eq!(data.pre.bits[..pre::COLUMNS], cells(&made.pres, pre::COLUMNS, slot, index));
+			assert_eq!(data.post.bits[..post::COLUMNS], cells(&made.posts, post::COLUMNS, slot, index));
 			assert_eq!(rows::pre_row(&made.game.frames, &made.stores(), slot, index), Ok(data.pre));
 			assert_eq!(rows::post_row(&made.game.frames, &made.stores(), slot, index), Ok(data.post));
 		}
@@ -37,8 +40,8 @@ fn a_frame_says_which_items_it_has() {
 #[test]
 fn fields_are_named() {
 	let mut made = Made::new();
-	made.posts[5 * FRAMES + 1] = 12.5f32.to_bits();
-	made.pres[14 * FRAMES] = 0x80;
+	made.posts[post::PERCENT * FRAMES + 1] = 12.5f32.to_bits();
+	made.pres[pre::RAW_ANALOG_X * FRAMES] = 0x80;
 	assert_eq!(rows::post_row(&made.game.frames, &made.stores(), 0, 1).unwrap().percent, 12.5);
 	assert_eq!(rows::pre_row(&made.game.frames, &made.stores(), 0, 0).unwrap().raw_analog_x, -128);
 }

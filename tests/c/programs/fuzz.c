@@ -161,6 +161,8 @@ static void check_cut(const model_file *f, size_t cut)
 {
 	slp_walked w = guarded_walk(f->bytes, cut);
 	size_t first = 16 + (size_t)f->bytes[16], stop = cut < f->data_end ? cut : f->data_end, events = 0;
+	if (cut > 16)
+		CHECK_EQ(slp_first_place(f->bytes, cut), first);
 	if (cut < first) {
 		CHECK_EQ(w.refused, cut < 15 ? 14 : 15);
 		CHECK_EQ(w.offset, cut < 15 ? 0 : 15);

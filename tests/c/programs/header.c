@@ -27,23 +27,29 @@ _Static_assert(sizeof(slp_pre) == 200 && offsetof(slp_pre, bits) == 4 && offseto
 _Static_assert(sizeof(slp_post) == 216 && offsetof(slp_post, state_flags) == 164 && offsetof(slp_post, instance_id) == 214, "slp_post");
 _Static_assert(sizeof(slp_item) == 176 && sizeof(slp_frame_start) == 140 && sizeof(slp_frame_end) == 136, "records");
 _Static_assert(sizeof(slp_fod_platform) == 140 && sizeof(slp_dreamland_whispy) == 136 && sizeof(slp_stadium_transformation) == 136, "records");
-_Static_assert(sizeof(slp_port_data) == 836 && sizeof(slp_frame) == 3704 && offsetof(slp_frame, start) == 3360, "slp_frame");
+_Static_assert(sizeof(slp_port_data) == 836 && sizeof(slp_frame) == 3704 && offsetof(slp_frame, id) == 4 && offsetof(slp_frame, port_count) == 8 &&
+               offsetof(slp_frame, start) == 3360, "slp_frame");
 _Static_assert(sizeof(slp_frame_answer) == 3712 && sizeof(slp_pre_answer) == 204 && sizeof(slp_item_answer) == 180, "answers");
 
 _Static_assert(SLP_OK == 0 && SLP_SHORT_OUTPUT == 12 && SLP_BAD_PLACE == 17, "refusals");
 _Static_assert(SLP_LAST_FRAME_ID - SLP_FIRST_FRAME_ID + 1 == SLP_MAX_FRAMES, "frame ids");
 _Static_assert(SLP_EVENT_MESSAGE_SPLITTER == 16 && SLP_EVENT_PAYLOADS == 53 && SLP_EVENT_STADIUM_TRANSFORMATION == 65, "events");
 
+_Static_assert(SLP_FRAME_START_COLUMNS == 2 && SLP_PRE_COLUMNS == 19 && SLP_POST_COLUMNS == 32 && SLP_FRAME_END_COLUMNS == 1, "columns");
+_Static_assert(SLP_ITEM_COLUMNS == 16 && SLP_FOD_PLATFORM_COLUMNS == 2 && SLP_DREAMLAND_WHISPY_COLUMNS == 1, "columns");
+_Static_assert(SLP_STADIUM_TRANSFORMATION_COLUMNS == 2 && SLP_FAMILY_STADIUM_TRANSFORMATION == 7, "columns");
+
 /* SLP_STORES in the order of slp_write: stores of different lengths, each of which is refused anywhere else. */
 static void stores_in_order(void)
 {
-	static const uint32_t cells[32];
+	static const uint32_t cells[SLP_POST_COLUMNS];
 	static const uint8_t block[760], presence[1] = { 1 };
 	slp_game g = { .frames = { .version = { 3, 18, 0 }, .counts = { .frames = 1 }, .port_count = 1 } };
 	g.start = (slp_start){ .is_pal = { 1, 0 }, .is_frozen_ps = { 1, 0 }, .scene = { 1, 0, 0 }, .language = { 1, 0 } };
 	g.start.match_info.given = 1;
 	g.frames.ports[0].leader_presence = 1;
-	slp_stores s = { .ids = { cells, 1 }, .starts = { cells, 2 }, .pres = { cells, 19 }, .posts = { cells, 32 }, .ends = { cells, 1 } };
+	slp_stores s = { .ids = { cells, 1 }, .starts = { cells, SLP_FRAME_START_COLUMNS }, .pres = { cells, SLP_PRE_COLUMNS },
+	                 .posts = { cells, SLP_POST_COLUMNS }, .ends = { cells, SLP_FRAME_END_COLUMNS } };
 	s.item_offsets = s.fod_offsets = s.whispy_offsets = s.stadium_offsets = (slp_cells){ cells, 2 };
 	s.presence = (slp_bytes){ presence, 1 };
 	uint8_t out[1000];

@@ -17,13 +17,14 @@ int main()
 	start.len = sizeof block;
 	slp_written w = slp_write_game(out, sizeof out, &game, &stores, start, none, none);
 	slp_walked k = slp_walk(out, w.len);
-	slp_step s = slp_step_at(out, w.len, 29);
+	slp_step s = slp_step_at(out, w.len, slp_first_place(out, w.len));
 	const uint32_t ids[2] = { 7, 7 };
 	uint8_t mask[2], scratch[131];
 	uint8_t refused = slp_rollbacks(ids, 2, SLP_EXCEPT_LAST, mask, 2, scratch, sizeof scratch);
 	slp_frame_answer row = slp_frame_row(game.frames, SLP_STORES(&stores), 0);
 	bool ok = w.refused == 0 && w.len == 351 && k.whole == 1 && k.events == 1 && s.kind == SLP_STEP_EVENT && s.next == 350 && refused == 0 &&
-	          mask[0] == 1 && mask[1] == 0 && row.refused == 13;
+	          mask[0] == 1 && mask[1] == 0 && row.refused == 13 &&
+	          slp_columns(game.frames.version, SLP_FAMILY_PRE) == 14;
 	std::printf("header_cpp: %s\n", ok ? "1 passed (1 checks)" : "0 passed, 1 failed");
 	return ok ? 0 : 1;
 }

@@ -201,6 +201,13 @@ static void odd_floats(void)
 		check_all(&m.in);
 		flat f = guarded_row(&m.in, PRE_ROW, 0, 0);
 		CHECK_EQ(f.cells[2], m.cells[2][4]);
+		/* in the field every NaN is the one pattern, and every other number is its cell */
+		uint32_t bits;
+		m.cells[2][SLP_PRE_POSITION_X * 2] = odd[i];
+		slp_pre_answer a = slp_pre_row(m.in.game.frames, SLP_STORES(&m.in.stores), 0, 0);
+		memcpy(&bits, &a.row.position.x, sizeof bits);
+		CHECK_EQ(bits, odd[i] % 0x80000000 > 0x7f800000 ? 0x7fc00000 : odd[i]);
+		CHECK_EQ(a.row.bits[SLP_PRE_POSITION_X], odd[i]);
 	}
 	unmake(&m);
 }

@@ -161,6 +161,7 @@ static void range(flat *f, slp_range r)
 
 static void frame(flat *f, const slp_frame *r, slp_version v)
 {
+	f->odd |= r->version.major != v.major || r->version.minor != v.minor || r->version.patch != v.patch;
 	plain(f, (uint32_t)r->id);
 	plain(f, r->port_count);
 	for (size_t i = 0; i < 4; i++)

@@ -162,3 +162,12 @@ slp_step guarded_step(const uint8_t *file, size_t len, size_t place)
 	give_back(&f);
 	return s;
 }
+
+size_t guarded_first_place(const uint8_t *file, size_t len)
+{
+	loan f = lend(file, len, 1);
+	size_t place = slp_first_place(f.data, len);
+	CHECK(kept(&f, 0));
+	give_back(&f);
+	return place;
+}

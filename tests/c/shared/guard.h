@@ -40,5 +40,6 @@ uint8_t guarded_rollbacks(const uint32_t *ids, size_t ids_len, uint8_t keep, uin
                           size_t scratch_len);
 slp_walked guarded_walk(const uint8_t *file, size_t len);
 slp_step guarded_step(const uint8_t *file, size_t len, size_t place);
+size_t guarded_first_place(const uint8_t *file, size_t len);
 
 #endif

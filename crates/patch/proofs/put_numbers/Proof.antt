@@ -5,7 +5,8 @@ use Prim.Native.Nat.{_-_, _≤_}
 use native.Mathlib.Omega.{arith}
 use lib.ListN.{length, drop}
 use Rattle.wire.proofs.Writers.{room-number}
-use Rattle.patch.specs.Patch.{patched, numbers}
+use Rattle.patch.specs.Patch.{patched}
+use Rattle.patch.specs.Inner.{numberPatches}
 use Rattle.patch.proofs.Patches.{fit-at, numbers-step, numbers-done}
 use Rattle.patch.proofs.put_numbers.Statement.{statement}
 use Rattle.patch.proofs.put_numbers.Tie as tie
@@ -13,7 +14,7 @@ use Rattle.patch.proofs.put_numbers.Tie as tie
 abbrev Inv-loop : tie.InvT-loop
 Inv-loop block₀ at offsets widths values j₀ block j =
     (j ≤ length offsets) × (length block ≡ length block₀)
-    × (patched block (numbers at (drop j offsets) (drop j widths) (drop j values)) ≡ patched block₀ (numbers at offsets widths values))
+    × (patched block (numberPatches at (drop j offsets) (drop j widths) (drop j values)) ≡ patched block₀ (numberPatches at offsets widths values))
 
 abbrev μ-loop : tie.MeasureT-loop
 μ-loop block₀ at offsets widths values j₀ block j = length offsets - j

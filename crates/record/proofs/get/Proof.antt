@@ -6,7 +6,8 @@ use native.Mathlib.Omega.{arith}
 use borrow.Author.Needs.{needs}
 use lib.ListN.{length, drop, length-set}
 use Rattle.layout.specs.Columns.{sum}
-use Rattle.record.specs.Record.{filled, InStore}
+use Rattle.record.specs.Record.{readBack}
+use Rattle.record.specs.Inner.{InStore}
 use Rattle.record.proofs.Laws.{read-step, read-sum, read-store, read-done}
 use Rattle.record.proofs.get.Statement.{statement}
 use Rattle.record.proofs.get.Tie as tie
@@ -17,7 +18,7 @@ Inv-loop payload at widths cells₀ stride first p₀ i₀ k₀ cells p i k =
     × (length cells ≡ length cells₀)
     × (p + sum (drop k widths) ≡ at + sum widths)
     × InStore (drop k widths) (length cells) stride i
-    × (filled (drop k widths) (drop p payload) cells stride i ≡ filled widths (drop at payload) cells₀ stride first)
+    × (readBack (drop k widths) (drop p payload) cells stride i ≡ readBack widths (drop at payload) cells₀ stride first)
 
 abbrev μ-loop : tie.MeasureT-loop
 μ-loop payload at widths cells₀ stride first p₀ i₀ k₀ cells p i k = length widths - k

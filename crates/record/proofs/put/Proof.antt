@@ -12,7 +12,8 @@ use Rattle.wire.proofs.Laws.{length-be}
 use Rattle.wire.proofs.Writers.{Behind, behind-done}
 use Rattle.format.specs.File.{eventBytes}
 use Rattle.layout.specs.Columns.{sum}
-use Rattle.record.specs.Record.{cellsBytes, headBytes, recordOf}
+use Rattle.record.specs.Record.{cellsBytes, recordOf}
+use Rattle.record.specs.Inner.{headBytes}
 use Rattle.record.proofs.Laws.{in-store-end, Turn, turn, none-left, head-room, length-record, put-start, put-step}
 use Rattle.record.proofs.put.Statement.{statement}
 use Rattle.record.proofs.put.Tie as tie

@@ -3,7 +3,7 @@
 use mathlib.Core.List.{[], _∷_}
 use borrow.Author.Needs.{needs}
 use Rattle.wire.proofs.Writers.{room-first, room-second, wrote-then}
-use Rattle.record.specs.Record.{headBytes}
+use Rattle.record.specs.Inner.{headBytes}
 use Rattle.record.proofs.put_head.Statement.{statement}
 use Rattle.record.proofs.put_head.Tie as tie
 

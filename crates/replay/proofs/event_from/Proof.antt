@@ -38,14 +38,15 @@ use denote.Triple.Table.{entered, cited}
 use denote.Triple.Walked.{says, Stays, stay-none, stay-none-slice, walkOf, goes-none, goes-none-slice, Walks, ends-at, walked, walk-meets}
 use denote.Exit.{yes}
 use denote.Triple.Clauses.{ensured, lasts}
-use Rattle.de.specs.Step.{stepOf}
+use Rattle.head.specs.Step.{stepOf}
+use Rattle.head.specs.Numbers.{StepNumbers, stepNumbers}
 use Rattle.replay.specs.Value.{heldAt}
 use Rattle.replay.specs.declared.Replay.{Replay}
-use Rattle.de.specs.declared.Step.{Step}
+use Rattle.head.specs.declared.Step.{Step}
 use Rattle.replay.proofs.Replay as T
 use Rattle.replay.proofs.Replay.Laws as T′
-use Rattle.de.proofs.Step as S
-use Rattle.de.proofs.Step.Laws as S′
+use Rattle.head.proofs.Step as S
+use Rattle.head.proofs.Step.Laws as S′
 use Rattle.replay.proofs.Replay.new as new
 use Rattle.replay.proofs.Replay.new.Symbol as new-def
 use Rattle.replay.proofs.Replay.new.Symbol.{name as #replay·new}
@@ -83,8 +84,8 @@ module _ {M : Type 1} (𝓤 : URA M) (H : Heap 𝓤) (A : Atoms 𝓤) (W : Given
   abbrev at : Vals from-place.signature (κ, tt)
   at = (v ∷ [], (vint w64 n ∷ [], tt))
 
-  abbrev found : Step
-  found = stepOf (now s) n
+  abbrev found : StepNumbers
+  found = stepNumbers (stepOf (now s) n)
 
   -- the struct's type as a local of a body has it
   abbrev αᵉ : NamedLft
@@ -116,10 +117,10 @@ module _ {M : Type 1} (𝓤 : URA M) (H : Heap 𝓤) (A : Atoms 𝓤) (W : Given
   goes-next : (r : Replay) (u : Val) → ent 𝓤 (⋆ 𝓤 H A (‵ (B (κ, tt) .own r (u ∷ [])) ∷ (‵ (flft κ q) ⊛ ‵ ftrue) ∷ [])) (Next 𝓤 H A mem run .pre (to-next r u))
   goes-next r u = qed W (‵ (B (κ, tt) .own r (u ∷ [])) ∷ (‵ (flft κ q) ⊛ ‵ ftrue) ∷ []) ∵ nothing ! $ move ! (1 ∷ 0 ∷ []) $ fjoin ! $ move ! (1 ∷ 0 ∷ []) $ join ! $ frame ! $ done !
 
-  next-said : (r : Replay) (t : Step) → ent 𝓤 (ensured 𝓤 H A next.ended (next.clauses 𝓤 H A mem run) (κ, tt) (r, tt) tt t) (fact 𝓤 (t ≡ stepOf (now (r .bytes)) (r .at)))
-  next-said r t = exE 𝓤 _ (λ ws. snd∗ 𝓤 (sem 𝓤 H A (lasts next.ended (κ, tt) (r, tt) ws)) (fact 𝓤 (t ≡ stepOf (now (r .bytes)) (r .at))))
+  next-said : (r : Replay) (t : Step) → ent 𝓤 (ensured 𝓤 H A next.ended (next.clauses 𝓤 H A mem run) (κ, tt) (r, tt) tt t) (fact 𝓤 (stepNumbers t ≡ stepNumbers (stepOf (now (r .bytes)) (r .at))))
+  next-said r t = exE 𝓤 _ (λ ws. snd∗ 𝓤 (sem 𝓤 H A (lasts next.ended (κ, tt) (r, tt) ws)) (fact 𝓤 (stepNumbers t ≡ stepNumbers (stepOf (now (r .bytes)) (r .at)))))
 
-  exits : (t : Step) (u : Val) → t ≡ found → ent 𝓤 (⋆ 𝓤 H A (‵ (S.the-row .own t (u ∷ [])) ∷ (‵ (flft κ q) ⊛ ‵ ftrue) ∷ ‵ Own ∷ [])) (Post u)
+  exits : (t : Step) (u : Val) → stepNumbers t ≡ found → ent 𝓤 (⋆ 𝓤 H A (‵ (S.the-row .own t (u ∷ [])) ∷ (‵ (flft κ q) ⊛ ‵ ftrue) ∷ ‵ Own ∷ [])) (Post u)
   exits t u e =
       qed W (‵ (S.the-row .own t (u ∷ [])) ∷ (‵ (flft κ q) ⊛ ‵ ftrue) ∷ ‵ Own ∷ []) ∵
       suffices ! _ (ends-at 𝓤 H A from-place.ended stayed (from-place.clauses 𝓤 H A mem run) W (((κ, tt), (q, tt), tt, (s, (n, tt)), at), tt) u t (tt, (tt, tt)) (tt, (tt, tt))) $ says ! e $
@@ -140,12 +141,12 @@ module _ {M : Type 1} (𝓤 : URA M) (H : Heap 𝓤) (A : Atoms 𝓤) (W : Given
         use2 W (raw (Next 𝓤 H A mem run .pre (to-next r u))) (goes-next r u) $
         calls-at ! fm (Next 𝓤 H A mem run) known-next (to-next r u) (and-then ! (load ! (from ! (stop !)) (look ! 2 refl)) (no-more !)) (λ u′.
         use1 W (later (some (λ (t : Step). ((‵ (flft κ q) ⊛ ‵ ftrue) ⊛ ‵ (S.the-row .own t (u′ ∷ []))) ⊛ raw (ensured 𝓤 H A next.ended (next.clauses 𝓤 H A mem run) (κ, tt) (r, tt) tt t)))) (id⊢ 𝓤 _) $ await ! tt $ pick ! (λ t.
-        split ! $ move ! (1 ∷ []) $ use1 W (raw (fact 𝓤 (t ≡ stepOf (now (r .bytes)) (r .at)))) (next-said r t) $ heard ! (t ≡ stepOf (now (r .bytes)) (r .at)) (λ e′. split ! $ move ! (1 ∷ []) $
+        split ! $ move ! (1 ∷ []) $ use1 W (raw (fact 𝓤 (stepNumbers t ≡ stepNumbers (stepOf (now (r .bytes)) (r .at))))) (next-said r t) $ heard ! (stepNumbers t ≡ stepNumbers (stepOf (now (r .bytes)) (r .at))) (λ e′. split ! $ move ! (1 ∷ []) $
         -- [the result; the token; what the slice owns; _3; …; _2; …; _1; …; room for _0; …]
         peeks ! S.the-row (Is S.the-row) (shows 𝓤 H A S.the-row) t (u′ ∷ []) (λ is′.
         land ! (from ! (stop !)) (init ! 9 refl (EL.lawful S.the-type S′.the-laws 𝓤 H A W tt .typed t _ is′ .0)) $
         returns ! (look ! 9 refl) $ forget ! 3 refl $ forget ! 5 refl $ forget ! 7 refl $ forget ! 9 refl $ move ! (9 ∷ 10 ∷ []) $ free1 ! $ move ! (7 ∷ 8 ∷ []) $ free1 ! $ move ! (5 ∷ 6 ∷ []) $ free1 ! $ move ! (3 ∷ 4 ∷ []) $ free1 ! $ free0 ! $
-        by ! (exits t u′ (e′ ∙ ap (λ (x : Replay). stepOf (now (x .bytes)) (x .at)) e))))))))))))))
+        by ! (exits t u′ (e′ ∙ ap (λ (x : Replay). stepNumbers (stepOf (now (x .bytes)) (x .at))) e))))))))))))))
 
 module _ {M : Type 1} (𝓤 : URA M) (H : Heap 𝓤) (A : Atoms 𝓤) (W : Given 𝓤 H A) (mem : Memory → SProp 𝓤) (run : Routine → Fun 𝓤) where
   event-from-walks : (C : Calls 𝓤 H) (Λ : Loops 𝓤 H) → FmC 𝓤 H (W .laws) C → Triple 𝓤 (C #replay·new) (New 𝓤 H A mem run) → Triple 𝓤 (C #replay·next) (Next 𝓤 H A mem run)

@@ -2,7 +2,7 @@
 use mathlib.Core.Path.{sym, ap}
 use native.Mathlib.Omega.{arith}
 use borrow.Author.Needs.{needs}
-use Rattle.rollback.specs.Turn.{turnOf}
+use Rattle.rollback.specs.Inner.{turnOf}
 use Rattle.rollback.specs.declared.frame.Rollbacks.{Rollbacks}
 use Rattle.rollback.proofs.turn.Statement.{statement}
 use Rattle.rollback.proofs.turn.Tie as tie

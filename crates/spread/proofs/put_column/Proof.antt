@@ -3,7 +3,7 @@
 use Prim.Native.Nat.{_-_}
 use native.Mathlib.Omega.{arith}
 use Rattle.wire.proofs.Laws.{length-be}
-use Rattle.spread.specs.Spread.{cellAt}
+use Rattle.spread.specs.Inner.{cellAt}
 use Rattle.spread.proofs.Laws.{Strewing, strewing-start, strewing-step, strewing-done, strewing-at}
 use Rattle.spread.proofs.put_column.Statement.{statement}
 use Rattle.spread.proofs.put_column.Tie as tie

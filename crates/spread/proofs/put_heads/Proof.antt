@@ -2,7 +2,7 @@
 -- Assumes nothing.
 use Prim.Native.Nat.{_-_}
 use native.Mathlib.Omega.{arith}
-use Rattle.spread.specs.Spread.{headAt}
+use Rattle.spread.specs.Inner.{headAt}
 use Rattle.spread.proofs.Laws.{Strewing, strewing-start, strewing-step, strewing-done, strewing-at, head-at}
 use Rattle.spread.proofs.put_heads.Statement.{statement}
 use Rattle.spread.proofs.put_heads.Tie as tie

@@ -8,9 +8,9 @@ use borrow.Author.Needs.{needs}
 use lib.ListN.{length, take}
 use lib.Seq.{take-length}
 use Rattle.layout.specs.Columns.{sum}
-use Rattle.record.specs.Record.{headBytes}
+use Rattle.record.specs.Inner.{headBytes}
 use Rattle.record.proofs.Laws.{in-store-end, step-back, Turn, turn, head-room}
-use Rattle.spread.specs.Spread.{recordAt}
+use Rattle.spread.specs.Inner.{recordAt}
 use Rattle.spread.proofs.Laws.{Behinds, before, record-at, records-start, records-step, records-done}
 use Rattle.spread.proofs.put_records.Statement.{statement}
 use Rattle.spread.proofs.put_records.Tie as tie

@@ -1,12 +1,9 @@
 //! A game of 3.18.0 that the tests share: three frames of a leader and a follower, who is away in the second; an item in the first and two in
 //! the third.
 
-use slp::{Counts, End, Game, Optional, PortColumn, Stores, Version};
+use slp::{columns, Counts, End, Game, Optional, PortColumn, Stores, Version};
 
 pub const FRAMES: usize = 3;
-pub const PRE_COLUMNS: usize = 19;
-pub const POST_COLUMNS: usize = 32;
-pub const ITEM_COLUMNS: usize = 16;
 
 /// A game with the cells of its stores, each of which tells where it stands.
 pub struct Made {
@@ -37,11 +34,11 @@ impl Made {
 		Self {
 			game,
 			ids: (-123..-120).map(|id: i32| id as u32).collect(),
-			starts: cells(2, FRAMES),
-			pres: cells(2 * PRE_COLUMNS, FRAMES),
-			posts: cells(2 * POST_COLUMNS, FRAMES),
-			ends: cells(1, FRAMES),
-			items: cells(ITEM_COLUMNS, 3),
+			starts: cells(columns::frame_start::COLUMNS, FRAMES),
+			pres: cells(2 * columns::pre::COLUMNS, FRAMES),
+			posts: cells(2 * columns::post::COLUMNS, FRAMES),
+			ends: cells(columns::frame_end::COLUMNS, FRAMES),
+			items: cells(columns::item::COLUMNS, 3),
 			item_offsets: vec![0, 1, 1, 3],
 			no_rows: vec![0; FRAMES + 1],
 			presence: vec![0b101],

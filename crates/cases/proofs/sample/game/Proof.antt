@@ -2,8 +2,8 @@
 -- Assumes nothing.
 use borrow.Author.Needs.{needs}
 use mathlib.Core.Path.{ap₂}
-use Rattle.frames.specs.declared.input.Frames.{Frames}
-use Rattle.start.specs.declared.game.Start.{Start}
+use Rattle.game.specs.declared.frames.Frames.{Frames}
+use Rattle.game.specs.declared.start.Start.{Start}
 use Rattle.cases.specs.Games.{gameWith}
 use Rattle.cases.proofs.sample.game.Statement.{statement}
 use Rattle.cases.proofs.sample.game.Tie as tie

@@ -2,7 +2,7 @@
 -- Assumes nothing.
 use borrow.Author.Needs.{needs}
 use mathlib.Core.Path.{ap}
-use Rattle.cases.specs.Games.{seatWith}
+use Rattle.game.specs.Zero.{seatWith}
 use Rattle.cases.proofs.sample.no_seat.Statement.{statement}
 use Rattle.cases.proofs.sample.no_seat.Tie as tie
 

@@ -6,14 +6,14 @@ use borrow.Author.Needs.{needs}
 use Rattle.wire.specs.Wire.{ranged}
 use Rattle.wire.proofs.Writers.{Left, range-room, range-step, range-done}
 use Rattle.format.specs.File.{eventBytes, eventsBytes}
-use Rattle.codes.specs.Blocks.{blockOf, blocksOf}
+use Rattle.codes.specs.Blocks.{codeBlock, codeBlocks}
 use Rattle.codes.proofs.Laws.{blocks-start}
 use Rattle.codes.proofs.blocks.put_blocks.Statement.{statement}
 use Rattle.codes.proofs.blocks.put_blocks.Tie as tie
 
 abbrev Inv-loop : tie.InvT-loop
 Inv-loop out₀ at codes actual n p₀ b₀ out p b =
-    (b ≤ n) × Left out₀ at (eventsBytes (blocksOf codes actual)) out p (ranged (λ i. eventBytes (blockOf codes actual i)) b (n - b))
+    (b ≤ n) × Left out₀ at (eventsBytes (codeBlocks codes actual)) out p (ranged (λ i. eventBytes (codeBlock codes actual i)) b (n - b))
 
 abbrev μ-loop : tie.MeasureT-loop
 μ-loop out₀ at codes actual n p₀ b₀ out p b = n - b

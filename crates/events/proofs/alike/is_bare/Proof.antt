@@ -6,16 +6,16 @@ use Rattle.events.proofs.alike.is_bare.Statement.{statement}
 use Rattle.events.proofs.alike.is_bare.Tie as tie
 
 mul-if2 : tie.Need-mul-if2
-mul-if2 c = omega (arith, c .before .pre .0 (c .if1 .taken) .count, c .before .good)
+mul-if2 c = omega (arith, c .before .pre .0 (c .if1 .taken) .entries, c .before .good)
 
 shared-slice-read-if2 : tie.Need-shared-slice-read-if2
-shared-slice-read-if2 c = omega (arith, c .before .before .pre .0 (c .before .if1 .taken) .count)
+shared-slice-read-if2 c = omega (arith, c .before .before .pre .0 (c .before .if1 .taken) .entries)
 
 mul-if2-2 : tie.Need-mul-if2-2
-mul-if2-2 c = omega (arith, c .before .before .pre .0 (c .before .if1 .taken) .count)
+mul-if2-2 c = omega (arith, c .before .before .pre .0 (c .before .if1 .taken) .entries)
 
 shared-slice-read-if2-2 : tie.Need-shared-slice-read-if2-2
-shared-slice-read-if2-2 c = omega (arith, c .before .before .before .pre .0 (c .before .before .if1 .taken) .count)
+shared-slice-read-if2-2 c = omega (arith, c .before .before .before .pre .0 (c .before .before .if1 .taken) .entries)
 
 returns : tie.Need-returns
 returns c = λ e. never e

@@ -1,6 +1,6 @@
 -- `events::alike::is_same` meets its contract.
 -- Assumes nothing.
-use mathlib.Core.Path.{_≡_, sym, _∙_}
+use mathlib.Core.Path.{sym, _∙_}
 use Rattle.events.proofs.AlikeLaws.{never}
 use Rattle.events.proofs.alike.is_same.Statement.{statement}
 use Rattle.events.proofs.alike.is_same.Tie as tie

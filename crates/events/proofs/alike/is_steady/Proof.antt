@@ -4,7 +4,7 @@ use mathlib.Core.Path.{_≡_, sym, _∙_}
 use Prim.Native.Nat.{ℕ, _+_, _-_, _≤_, _<_}
 use native.Mathlib.Omega.{arith}
 use borrow.Author.Needs.{needs}
-use Rattle.frames.specs.Presence.{marked}
+use Rattle.players.specs.Presence.{marked}
 use Rattle.events.proofs.AlikeLaws.{never, below-step, steady-all}
 use Rattle.events.proofs.alike.is_steady.Statement.{statement}
 use Rattle.events.proofs.alike.is_steady.Tie as tie

@@ -11,7 +11,7 @@ put-ones-requires c κs =
     let s = c .before .before .before .before .before .before .before .before in
     let a = s .args in
     let g = s .pre .0 .0 in
-    (g .stored, omega (arith, g .rows, s .pre .2), s .pre .2, room-1 (a .plans) (a .s) (a .starts .now) (a .pres .now) (a .posts .now) (a .ends .now) (a .presence .now) (a .ids .now) (a .i) (s .pre .5))
+    (g .laid, omega (arith, g .rows, s .pre .2), s .pre .2, room-1 (a .shapes) (a .s) (a .starts .now) (a .pres .now) (a .posts .now) (a .ends .now) (a .presence .now) (a .ids .now) (a .i) (s .pre .5))
 
 put-teams-requires : tie.Need-put-teams-requires
 put-teams-requires c κs =
@@ -19,7 +19,7 @@ put-teams-requires c κs =
     let s = c1 .before .before .before .before .before .before .before .before .before in
     let a = s .args in
     let g = s .pre .0 .1 in
-    (g .stored, s .pre .3, omega (arith, g .rows, s .pre .2), omega (arith, g .rows, s .pre .1), s .pre .2, s .pre .4, room-2 (a .plans) (a .s) (a .starts .now) (a .pres .now) (a .posts .now) (a .ends .now) (a .presence .now) (a .ids .now) (a .i) (s .pre .5) (c1 .put-ones .ensures))
+    (g .laid, s .pre .3, omega (arith, g .rows, s .pre .2), omega (arith, g .rows, s .pre .1), s .pre .2, s .pre .4, room-2 (a .shapes) (a .s) (a .starts .now) (a .pres .now) (a .posts .now) (a .ends .now) (a .presence .now) (a .ids .now) (a .i) (s .pre .5) (c1 .put-ones .ensures))
 
 put-teams-requires-2 : tie.Need-put-teams-requires-2
 put-teams-requires-2 c κs =
@@ -28,7 +28,7 @@ put-teams-requires-2 c κs =
     let s = c1 .before .before .before .before .before .before .before .before .before in
     let a = s .args in
     let g = s .pre .0 .2 in
-    (g .stored, s .pre .3, omega (arith, g .rows, s .pre .2), omega (arith, g .rows, s .pre .1), s .pre .2, s .pre .4, room-3 (a .plans) (a .s) (a .starts .now) (a .pres .now) (a .posts .now) (a .ends .now) (a .presence .now) (a .ids .now) (a .i) (s .pre .5) (c1 .put-ones .ensures) (c2 .put-teams .ensures))
+    (g .laid, s .pre .3, omega (arith, g .rows, s .pre .2), omega (arith, g .rows, s .pre .1), s .pre .2, s .pre .4, room-3 (a .shapes) (a .s) (a .starts .now) (a .pres .now) (a .posts .now) (a .ends .now) (a .presence .now) (a .ids .now) (a .i) (s .pre .5) (c1 .put-ones .ensures) (c2 .put-teams .ensures))
 
 put-ones-requires-2 : tie.Need-put-ones-requires-2
 put-ones-requires-2 c κs =
@@ -38,7 +38,7 @@ put-ones-requires-2 c κs =
     let s = c1 .before .before .before .before .before .before .before .before .before in
     let a = s .args in
     let g = s .pre .0 .3 in
-    (g .stored, omega (arith, g .rows, s .pre .2), s .pre .2, room-4 (a .plans) (a .s) (a .starts .now) (a .pres .now) (a .posts .now) (a .ends .now) (a .presence .now) (a .ids .now) (a .i) (s .pre .5) (c1 .put-ones .ensures) (c2 .put-teams .ensures) (c3 .put-teams2 .ensures))
+    (g .laid, omega (arith, g .rows, s .pre .2), s .pre .2, room-4 (a .shapes) (a .s) (a .starts .now) (a .pres .now) (a .posts .now) (a .ends .now) (a .presence .now) (a .ids .now) (a .i) (s .pre .5) (c1 .put-ones .ensures) (c2 .put-teams .ensures) (c3 .put-teams2 .ensures))
 
 returns : tie.Need-returns
 returns c =
@@ -48,7 +48,7 @@ returns c =
     let c1 = c2 .before .before .before .before in
     let s = c1 .before .before .before .before .before .before .before .before .before in
     let a = s .args in
-    eight-sown (a .plans) (a .s) (a .starts .now) (a .pres .now) (a .posts .now) (a .ends .now) (a .presence .now) (a .ids .now) (a .i) (s .pre .5) (c1 .put-ones .ensures) (c2 .put-teams .ensures) (c3 .put-teams2 .ensures) (c4 .put-ones2 .ensures)
+    eight-sown (a .shapes) (a .s) (a .starts .now) (a .pres .now) (a .posts .now) (a .ends .now) (a .presence .now) (a .ids .now) (a .i) (s .pre .5) (c1 .put-ones .ensures) (c2 .put-teams .ensures) (c3 .put-teams2 .ensures) (c4 .put-ones2 .ensures)
 
 pub put-eight-spec : {M : Type 1} → statement M
 put-eight-spec = tie.close (tie.spec put-ones-requires put-teams-requires put-teams-requires-2 put-ones-requires-2 (λ c. search needs) returns)

@@ -7,7 +7,6 @@ use borrow.Author.Needs.{needs}
 use Rattle.spread.proofs.Laws.{rooms-as, sown-as, sown-none}
 use Rattle.events.proofs.Laws.{only-in}
 use Rattle.events.proofs.EightLaws.{ones-given, ones-none}
-use Rattle.events.specs.Eights.{onesOn}
 use Rattle.events.proofs.eights.put_ones.Statement.{statement}
 use Rattle.events.proofs.eights.put_ones.Tie as tie
 

@@ -7,25 +7,25 @@ use mathlib.Core.Path.{_≡_, refl, sym}
 use mathlib.Core.Bool.{true}
 use Rattle.wire.specs.Wire.{ranged}
 use Rattle.wire.proofs.Writers.{Left, range-start, range-room, range-step, range-done, room-as, wrote-as}
-use Rattle.frames.specs.Stores.{cells, offsets, lent}
-use Rattle.events.specs.Plans.{frameBytes}
-use Rattle.events.proofs.Laws.{frames-is, ready-of}
-use Rattle.events.proofs.AlikeLaws.{never, rising-where, Follows, follows-eight, follows-one, eights-room, eights-step}
+use Rattle.game.specs.Stores.{cells, offsets, lent}
+use Rattle.events.specs.Inner.{frameBytes}
+use Rattle.events.proofs.Laws.{frames-is, supplied-of}
+use Rattle.events.proofs.AlikeLaws.{never, ranges-where, Follows, follows-eight, follows-one, eights-room, eights-step}
 use Rattle.events.proofs.frame.put_frames.Statement.{statement}
 use Rattle.events.proofs.frame.put_frames.Tie as tie
 
 abbrev Inv-loop : tie.InvT-loop
-Inv-loop out₀ at s ids starts pres posts ends items fods whispys stadiums item-offsets fod-offsets whispy-offsets stadium-offsets presence plans n p₀ i₀ step₀ like₀ out p i step like =
+Inv-loop out₀ at s ids starts pres posts ends items fods whispys stadiums item-offsets fod-offsets whispy-offsets stadium-offsets presence shapes n p₀ i₀ step₀ like₀ out p i step like =
     let all = lent (cells ids starts pres posts ends items fods whispys stadiums) (offsets item-offsets fod-offsets whispy-offsets stadium-offsets) presence in
     (i ≤ length ids)
-    × Left out₀ at (ranged (frameBytes plans s all) 0 (length ids)) out p (ranged (frameBytes plans s all) i (length ids - i))
-    × (like ≡ true → Follows plans s all (length ids) step i)
+    × Left out₀ at (ranged (frameBytes shapes s all) 0 (length ids)) out p (ranged (frameBytes shapes s all) i (length ids - i))
+    × (like ≡ true → Follows shapes s all (length ids) step i)
 
 abbrev μ-loop : tie.MeasureT-loop
-μ-loop out₀ at s ids starts pres posts ends items fods whispys stadiums item-offsets fod-offsets whispy-offsets stadium-offsets presence plans n p₀ i₀ step₀ like₀ out p i step like = length ids - i
+μ-loop out₀ at s ids starts pres posts ends items fods whispys stadiums item-offsets fod-offsets whispy-offsets stadium-offsets presence shapes n p₀ i₀ step₀ like₀ out p i step like = length ids - i
 
-plans-of-requires : tie.Need-plans-of-requires Inv-loop μ-loop
-plans-of-requires c κs = c .before .before .before .before .before .before .before .before .before .before .before .before .before .before .before .pre .0 .modest
+shapes-of-requires : tie.Need-shapes-of-requires Inv-loop μ-loop
+shapes-of-requires c κs = c .before .before .before .before .before .before .before .before .before .before .before .before .before .before .before .pre .0 .modest
 
 loop-holds : tie.Need-loop-holds Inv-loop μ-loop
 loop-holds c = (omega arith, range-start _ _, λ e. never e)
@@ -36,10 +36,10 @@ sub-put-alike c = let f = c .before .before .before .loop .inv .2 (c .before .if
 put-alike-requires : tie.Need-put-alike-requires Inv-loop μ-loop
 put-alike-requires c κs =
     let s = c .before .before .before .before .before .before .before .before .before .before .before .before .before .before .before .before .before .before .before .before in
-    let m = c .before .before .before .before .plans-of .ensures in
+    let m = c .before .before .before .before .shapes-of .ensures in
     let l = c .before .before .before .loop in
     let f = l .inv .2 (c .before .if1 .taken) in
-    (ready-of _ _ _ _ m (s .pre .1) (s .pre .0), f .alike, omega (arith, f .some), f .long, eights-room _ (l .i) _ (f .alike .clear .few) (l .inv .1) (room-as (frames-is _ _ _ _ m (s .pre .1) _ (s .pre .0 .ids)) (s .pre .2)))
+    (supplied-of _ _ _ _ m (s .pre .1) (s .pre .0), f .alike, omega (arith, f .some), f .long, eights-room _ (l .i) _ (f .alike .clear .few) (l .inv .1) (room-as (frames-is _ _ _ _ m (s .pre .1) _ (s .pre .0 .ids)) (s .pre .2)))
 
 add-i : tie.Need-add-i Inv-loop μ-loop
 add-i c = let f = c .before .before .before .before .before .before .loop .inv .2 (c .before .before .before .before .if1 .taken) in omega (arith, f .alike .clear .few, c .before .before .before .before .before .before .before .before .before .before .before .before .before .before .before .before .before .before .before .before .before .before .before .pre .0 .modest .frames, c .before .before .before .before .before .before .before .before .before .before .before .before .before .before .before .before .before .before .before .before .before .before .before .pre .0 .ids)
@@ -47,15 +47,15 @@ add-i c = let f = c .before .before .before .before .before .before .loop .inv .
 is-clear-requires : tie.Need-is-clear-requires Inv-loop μ-loop
 is-clear-requires c κs =
     let s = c .before .before .before .before .before .before .before .before .before .before .before .before .before .before .before .before .before .before .before .before .before .before .before in
-    let r = ready-of _ _ _ _ (c .before .before .before .before .before .before .before .plans-of .ensures) (s .pre .1) (s .pre .0) in
+    let r = supplied-of _ _ _ _ (c .before .before .before .before .before .before .before .shapes-of .ensures) (s .pre .1) (s .pre .0) in
     let h = c .before .before .before .before .before .before .loop .inv .2 (c .before .before .before .before .if1 .taken) .alike .clear .few in
-    (rising-where (r .item .rising), r .frames, omega arith, omega (arith, h))
+    (ranges-where (r .item .ranges), r .frames, omega arith, omega (arith, h))
 
 is-calm-requires : tie.Need-is-calm-requires Inv-loop μ-loop
 is-calm-requires c κs =
     let s = c .before .before .before .before .before .before .before .before .before .before .before .before .before .before .before .before .before .before .before .before .before .before .before .before .before in
-    let r = ready-of _ _ _ _ (c .before .before .before .before .before .before .before .before .before .plans-of .ensures) (s .pre .1) (s .pre .0) in
-    ((rising-where (r .fod .rising), rising-where (r .whispy .rising), rising-where (r .stadium .rising)), r .seats, r .frames, omega arith, c .before .is-clear .ensures (c .if2 .taken) .few)
+    let r = supplied-of _ _ _ _ (c .before .before .before .before .before .before .before .before .before .shapes-of .ensures) (s .pre .1) (s .pre .0) in
+    ((ranges-where (r .fod .ranges), ranges-where (r .whispy .ranges), ranges-where (r .stadium .ranges)), r .seats, r .frames, omega arith, c .before .is-clear .ensures (c .if2 .taken) .few)
 
 loop-less : tie.Need-loop-less Inv-loop μ-loop
 loop-less c = omega (arith, c .before .before .before .before .before .before .before .before .loop-test .taken)
@@ -78,10 +78,10 @@ loop-again-2 c =
 put-frame-requires : tie.Need-put-frame-requires Inv-loop μ-loop
 put-frame-requires c κs =
     let s = c .before .before .before .before .before .before .before .before .before .before .before .before .before .before .before .before .before .before .before .before in
-    let m = c .before .before .before .before .plans-of .ensures in
+    let m = c .before .before .before .before .shapes-of .ensures in
     let l = c .before .before .before .loop in
     let t = c .before .before .loop-test .taken in
-    (ready-of _ _ _ _ m (s .pre .1) (s .pre .0), t, range-room _ (l .i) _ (l .inv .1) t (room-as (frames-is _ _ _ _ m (s .pre .1) _ (s .pre .0 .ids)) (s .pre .2)))
+    (supplied-of _ _ _ _ m (s .pre .1) (s .pre .0), t, range-room _ (l .i) _ (l .inv .1) t (room-as (frames-is _ _ _ _ m (s .pre .1) _ (s .pre .0 .ids)) (s .pre .2)))
 
 sub-step : tie.Need-sub-step Inv-loop μ-loop
 sub-step c = omega (arith, c .before .before .put-frame .ensures .next-is)
@@ -92,14 +92,14 @@ add-i-2 c = let s = c .before .before .before .before .before .before .before .b
 is-clear-requires-2 : tie.Need-is-clear-requires-2 Inv-loop μ-loop
 is-clear-requires-2 c κs =
     let s = c .before .before .before .before .before .before .before .before .before .before .before .before .before .before .before .before .before .before .before .before .before .before .before in
-    let r = ready-of _ _ _ _ (c .before .before .before .before .before .before .before .plans-of .ensures) (s .pre .1) (s .pre .0) in
-    (rising-where (r .item .rising), r .frames, omega arith, omega (arith, c .before .before .before .before .before .loop-test .taken))
+    let r = supplied-of _ _ _ _ (c .before .before .before .before .before .before .before .shapes-of .ensures) (s .pre .1) (s .pre .0) in
+    (ranges-where (r .item .ranges), r .frames, omega arith, omega (arith, c .before .before .before .before .before .loop-test .taken))
 
 is-calm-requires-2 : tie.Need-is-calm-requires-2 Inv-loop μ-loop
 is-calm-requires-2 c κs =
     let s = c .before .before .before .before .before .before .before .before .before .before .before .before .before .before .before .before .before .before .before .before .before .before .before .before .before in
-    let r = ready-of _ _ _ _ (c .before .before .before .before .before .before .before .before .before .plans-of .ensures) (s .pre .1) (s .pre .0) in
-    ((rising-where (r .fod .rising), rising-where (r .whispy .rising), rising-where (r .stadium .rising)), r .seats, r .frames, omega arith, c .before .is-clear2 .ensures (c .if3 .taken) .few)
+    let r = supplied-of _ _ _ _ (c .before .before .before .before .before .before .before .before .before .shapes-of .ensures) (s .pre .1) (s .pre .0) in
+    ((ranges-where (r .fod .ranges), ranges-where (r .whispy .ranges), ranges-where (r .stadium .ranges)), r .seats, r .frames, omega arith, c .before .is-clear2 .ensures (c .if3 .taken) .few)
 
 loop-less-3 : tie.Need-loop-less-3 Inv-loop μ-loop
 loop-less-3 c = omega (arith, c .before .before .before .before .before .before .before .before .loop-test .taken)
@@ -125,7 +125,7 @@ same-length c = c .before .loop .inv .1 .same
 returns : tie.Need-returns Inv-loop μ-loop
 returns c =
     let s = c .before .before .before .before .before .before .before .before .before .before .before .before .before .before .before .before .before .before in
-    let m = c .before .before .plans-of .ensures in
+    let m = c .before .before .shapes-of .ensures in
     wrote-as (sym (frames-is _ _ _ _ m (s .pre .1) _ (s .pre .0 .ids))) (range-done _ _ _ (c .before .loop .inv .1) (c .loop-test .left))
 
 pub put-frames-spec : {M : Type 1} → statement M
@@ -134,7 +134,7 @@ put-frames-spec =
     (tie.spec
     Inv-loop
     μ-loop
-    plans-of-requires
+    shapes-of-requires
     loop-holds
     sub-put-alike
     put-alike-requires

@@ -2,7 +2,7 @@
 -- Assumes nothing.
 use borrow.Author.Needs.{needs}
 use Rattle.wire.proofs.Writers.{room-kept, wrote-kept, wrote-none}
-use Rattle.events.specs.Plans.{oneBytes}
+use Rattle.events.specs.Inner.{oneBytes}
 use Rattle.events.proofs.Laws.{only-in}
 use Rattle.events.proofs.rows.put_one.Statement.{statement}
 use Rattle.events.proofs.rows.put_one.Tie as tie

@@ -6,7 +6,7 @@ use native.Mathlib.Omega.{arith}
 use borrow.Author.Needs.{needs}
 use Rattle.wire.specs.Wire.{ranged}
 use Rattle.wire.proofs.Writers.{Left, range-start, range-room, range-step, range-done, room-kept, wrote-kept, wrote-none}
-use Rattle.events.specs.Plans.{playerBytes, playersBytes}
+use Rattle.events.specs.Inner.{slotBytes, slotsBytes}
 use Rattle.events.proofs.Laws.{row-in, next-first, first-small}
 use Rattle.events.proofs.rows.put_players.Statement.{statement}
 use Rattle.events.proofs.rows.put_players.Tie as tie
@@ -15,13 +15,13 @@ abbrev Inv-loop : tie.InvT-loop
 Inv-loop out₀ at cells presence id i m s p₀ first₀ k₀ out p first k =
     (k ≤ s .count)
     × (first ≡ k * m .block + i)
-    × Left out₀ at (playersBytes m s cells presence id i) out p (ranged (playerBytes m s cells presence id i) k (s .count - k))
+    × Left out₀ at (slotsBytes m s cells presence id i) out p (ranged (slotBytes m s cells presence id i) k (s .count - k))
 
 abbrev μ-loop : tie.MeasureT-loop
 μ-loop out₀ at cells presence id i m s p₀ first₀ k₀ out p first k = s .count - k
 
 loop-holds : tie.Need-loop-holds Inv-loop μ-loop
-unfolding playersBytes
+unfolding slotsBytes
 loop-holds c = (omega arith, omega arith, range-start _ _)
 
 element-copy-out-t22 : tie.Need-element-copy-out-t22 Inv-loop μ-loop

@@ -3,7 +3,7 @@
 use Prim.Native.Nat.{_-_, _≤_}
 use native.Mathlib.Omega.{arith}
 use Rattle.wire.proofs.Writers.{Left, left-start, range-room, range-step, range-done}
-use Rattle.events.specs.Plans.{rangeBytes}
+use Rattle.events.specs.Inner.{rangeBytes}
 use Rattle.events.proofs.Laws.{only-in}
 use Rattle.events.proofs.rows.put_range.Statement.{statement}
 use Rattle.events.proofs.rows.put_range.Tie as tie

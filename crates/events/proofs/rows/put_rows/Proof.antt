@@ -4,14 +4,14 @@ use Prim.Native.Nat.{_+_}
 use native.Mathlib.Omega.{arith}
 use borrow.Author.Needs.{needs}
 use Rattle.wire.proofs.Writers.{room-kept, wrote-kept, wrote-none}
-use Rattle.events.specs.Framed.{Rising}
-use Rattle.events.specs.Plans.{rowsBytes}
+use Rattle.players.specs.Inner.{Ranges}
+use Rattle.events.specs.Inner.{rowsBytes}
 use Rattle.events.proofs.rows.put_rows.Statement.{statement}
 use Rattle.events.proofs.rows.put_rows.Tie as tie
 
 -- the offsets, where the version has the family
-rising : (c : tie.Then1) → let a = c .before .before .before .before .args in Rising (a .offsets .now) (a .frames) (a .m .rows)
-rising c = c .before .before .before .before .pre .0 .rising (c .if1 .taken)
+ranges : (c : tie.Then1) → let a = c .before .before .before .before .args in Ranges (a .frames) (a .m .rows) (a .offsets .now)
+ranges c = c .before .before .before .before .pre .0 .ranges (c .if1 .taken)
 
 cast-a : tie.Need-cast-a
 cast-a c = omega (arith, c .shared-slice-known3 .given (c .before .before .before .before .before .args .i))
@@ -24,8 +24,8 @@ unfolding rowsBytes
 put-range-requires c κs =
     let t = c .before .before .before in
     let s = t .before .before .before .before in
-    let r = rising t in
-    (s .pre .0 .stored, r .rise (s .args .i) (s .pre .1), r .inside (s .args .i) (s .pre .1), room-kept _ _ (t .if1 .taken) (s .pre .2))
+    let r = ranges t in
+    (s .pre .0 .laid, r .rising (s .args .i) (s .pre .1), r .inside (s .args .i + 1) (omega (arith, s .pre .1)), room-kept _ _ (t .if1 .taken) (s .pre .2))
 
 returns : tie.Need-returns
 unfolding rowsBytes
@@ -39,12 +39,12 @@ pub put-rows-spec : {M : Type 1} → statement M
 put-rows-spec =
     tie.close
     (tie.spec
-    (λ c. omega (arith, rising c .count))
-    (λ c. omega (arith, rising (c .before) .count))
+    (λ c. omega (arith, ranges c .entries))
+    (λ c. omega (arith, ranges (c .before) .entries))
     cast-a
     (λ c. search needs)
-    (λ c. omega (arith, rising (c .before) .count))
-    (λ c. omega (arith, rising (c .before .before) .count))
+    (λ c. omega (arith, ranges (c .before) .entries))
+    (λ c. omega (arith, ranges (c .before .before) .entries))
     cast-b
     put-range-requires
     (λ c. search needs)

@@ -2,20 +2,19 @@
 -- Assumes nothing.
 use mathlib.Core.Path.{_≡_, sym, _∙_}
 use mathlib.Core.List.{List}
-use mathlib.Core.Bool.{Bool}
-use Prim.Native.Nat.{ℕ, _+_}
+use Prim.Native.Nat.{ℕ}
 use lib.ListN.{drop}
-use Rattle.format.specs.Refusal.{lowest}
+use Rattle.format.specs.Refusal.{Refusal, lowest}
 use Rattle.format.proofs.Refusals.{skip, here, none}
-use Rattle.frames.specs.Stores.{cells, offsets, lent}
+use Rattle.game.specs.Stores.{cells, offsets, lent}
 use Rattle.frames.specs.Judge.{refusals}
 use Rattle.frames.proofs.Accepted.{counted}
 use Rattle.frames.proofs.judge.judge.Statement.{statement}
 use Rattle.frames.proofs.judge.judge.Tie as tie
 
--- the tests, by what is passed to the function
-abbrev tests : tie.Start → List Bool
-tests s =
+-- the refusals, by what is passed to the function
+abbrev judged : tie.Start → List Refusal
+judged s =
     refusals (s .args .f)
     (lent (cells (s .args .ids .now) (s .args .starts .now) (s .args .pres .now) (s .args .posts .now) (s .args .ends .now) (s .args .items .now) (s .args .fods .now) (s .args .whispys .now) (s .args .stadiums .now))
     (offsets (s .args .«item-offsets» .now) (s .args .«fod-offsets» .now) (s .args .«whispy-offsets» .now) (s .args .«stadium-offsets» .now))
@@ -24,7 +23,7 @@ tests s =
 
 -- the first k of them are passed
 abbrev Past : ℕ → tie.Start → Type 0
-Past k s = (r : ℕ) → r ≡ lowest (1 + k) (drop k (tests s)) → r ≡ lowest 1 (tests s)
+Past k s = (r : ℕ) → r ≡ lowest (drop k (judged s)) → r ≡ lowest (judged s)
 
 abbrev entry : tie.Else1 → tie.Start
 entry c = c .before .before .before .before .before .before .before .before .before .before .before .before .before .before .before .before
@@ -83,7 +82,7 @@ returns-7 c = past-6 (c .before .before) _ (here _ _ _ (sym (c .before .ports-wr
 
 returns-8 : tie.Need-returns-8
 unfolding refusals
-returns-8 c = past-6 (c .before .before) _ (skip _ _ _ _ (sym (c .before .ports-wrong .ensures) ∙ c .if7 .left) (none _))
+returns-8 c = past-6 (c .before .before) _ (skip _ _ _ _ (sym (c .before .ports-wrong .ensures) ∙ c .if7 .left) none)
 
 stores-misfit-requires : tie.Need-stores-misfit-requires
 stores-misfit-requires c κs = counted _ _ _ (sym (c .before .too-many .ensures) ∙ c .if2 .left) .0

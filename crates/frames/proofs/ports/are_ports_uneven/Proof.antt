@@ -6,8 +6,9 @@ use Prim.Native.Nat.{_-_, _≤_}
 use native.Mathlib.Omega.{arith}
 use lib.ListN.{drop}
 use Rattle.format.proofs.Tests.{tested, rest-here, rest-skip, rest-none}
-use Rattle.frames.specs.Input.{noPort, portsOf}
-use Rattle.frames.specs.Judge.{oneOf, portUneven, portsUneven}
+use Rattle.game.specs.Frames.{noPort, portsOf}
+use Rattle.format.specs.Refusal.{oneOf}
+use Rattle.players.specs.Presence.{portUneven, portsUneven}
 use Rattle.frames.proofs.ports.are_ports_uneven.Statement.{statement}
 use Rattle.frames.proofs.ports.are_ports_uneven.Tie as tie
 

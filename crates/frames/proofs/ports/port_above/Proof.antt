@@ -8,7 +8,8 @@ use borrow.Author.Tests.{lt-ltb, le-ltb}
 use lib.Dec.{ltb}
 use lib.ListN.{drop}
 use Rattle.format.proofs.Tests.{rest-here, rest-skip, rest-none}
-use Rattle.frames.specs.Judge.{oneOf, portNumbers}
+use Rattle.format.specs.Refusal.{oneOf}
+use Rattle.frames.specs.Judge.{portNumbers}
 use Rattle.frames.proofs.PortLaws.{length-numbers}
 use Rattle.frames.proofs.ports.port_above.Statement.{statement}
 use Rattle.frames.proofs.ports.port_above.Tie as tie

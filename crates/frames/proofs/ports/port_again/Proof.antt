@@ -8,7 +8,8 @@ use borrow.Author.Tests.{eq-eqb, ne-eqb}
 use lib.Dec.{eqb}
 use lib.ListN.{drop}
 use Rattle.format.proofs.Tests.{rest-here, rest-skip, rest-none}
-use Rattle.frames.specs.Judge.{oneOf, portNumbers}
+use Rattle.format.specs.Refusal.{oneOf}
+use Rattle.frames.specs.Judge.{portNumbers}
 use Rattle.frames.proofs.PortLaws.{length-numbers}
 use Rattle.frames.proofs.ports.port_again.Statement.{statement}
 use Rattle.frames.proofs.ports.port_again.Tie as tie

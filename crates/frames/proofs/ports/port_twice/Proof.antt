@@ -7,7 +7,8 @@ use native.Mathlib.Omega.{arith}
 use lib.Dec.{eqb}
 use lib.ListN.{drop}
 use Rattle.format.proofs.Tests.{tested}
-use Rattle.frames.specs.Judge.{oneOf, portNumbers, twice}
+use Rattle.format.specs.Refusal.{oneOf}
+use Rattle.frames.specs.Judge.{portNumbers, twice}
 use Rattle.frames.proofs.PortLaws.{length-numbers, twice-here, twice-skip, twice-none}
 use Rattle.frames.proofs.ports.port_twice.Statement.{statement}
 use Rattle.frames.proofs.ports.port_twice.Tie as tie

@@ -6,8 +6,8 @@ use Prim.Native.Nat.{_+_, _*_, _-_, _≤_}
 use native.Mathlib.Omega.{arith}
 use lib.ListN.{drop}
 use Rattle.layout.specs.Columns.{sum}
-use Rattle.frames.specs.Input.{portsOf, portBytes}
-use Rattle.frames.proofs.SlotLaws.{even-bytes}
+use Rattle.game.specs.Frames.{portsOf, portBytes}
+use Rattle.players.proofs.SlotLaws.{even-bytes}
 use Rattle.frames.proofs.PortLaws.{sum-step, sum-done}
 use Rattle.frames.proofs.ports.presence_bytes.Statement.{statement}
 use Rattle.frames.proofs.ports.presence_bytes.Tie as tie

@@ -6,7 +6,7 @@ use Prim.Native.Nat.{ℕ}
 use lib.Dec.{eqb}
 use lib.ListN.{length}
 use Rattle.format.proofs.Tests.{one-here, one-skip, one-last}
-use Rattle.frames.specs.Judge.{presenceWrong}
+use Rattle.players.specs.Presence.{presenceWrong}
 use Rattle.frames.proofs.ports.presence_wrong.Statement.{statement}
 use Rattle.frames.proofs.ports.presence_wrong.Tie as tie
 

@@ -6,20 +6,20 @@ use native.Mathlib.Omega.{arith}
 use borrow.Author.Needs.{needs}
 use lib.ListN.{length, getD, drop}
 use Rattle.frames.specs.Judge.{columnsExceed}
-use Rattle.frames.specs.Accepted.{runWidths}
+use Rattle.frames.specs.Inner.{runWidths}
 use Rattle.frames.proofs.CellLaws.{runsFrom, runs-cells, runs-here, runs-skip, runs-done, columns-none}
 use Rattle.frames.proofs.stores.block_exceeds.Statement.{statement}
 use Rattle.frames.proofs.stores.block_exceeds.Tie as tie
 
 abbrev Inv-loop : tie.InvT-loop
-Inv-loop cells at rows plan from₀ k₀ from k =
-    (k ≤ plan .runs)
-    × (plan .runs ≤ 32)
-    × (from + length (runsFrom plan k) * rows ≤ length cells)
-    × (columnsExceed (runWidths plan) rows (drop at cells) ≡ columnsExceed (runsFrom plan k) rows (drop from cells))
+Inv-loop cells at rows runs from₀ k₀ from k =
+    (k ≤ runs .count)
+    × (runs .count ≤ 32)
+    × (from + length (runsFrom runs k) * rows ≤ length cells)
+    × (columnsExceed (runWidths runs) rows (drop at cells) ≡ columnsExceed (runsFrom runs k) rows (drop from cells))
 
 abbrev μ-loop : tie.MeasureT-loop
-μ-loop cells at rows plan from₀ k₀ from k = plan .runs - k
+μ-loop cells at rows runs from₀ k₀ from k = runs .count - k
 
 loop-holds : tie.Need-loop-holds Inv-loop μ-loop
 unfolding runsFrom

@@ -6,31 +6,31 @@ use native.Mathlib.Nat.{zero-add, sub-zero}
 use native.Mathlib.Omega.{arith}
 use lib.ListN.{length, drop}
 use Rattle.frames.specs.Judge.{blocksExceed}
-use Rattle.frames.specs.Accepted.{runWidths}
+use Rattle.frames.specs.Inner.{runWidths}
 use Rattle.frames.proofs.CellLaws.{blocks-cells, blocks-here, blocks-skip, blocks-none}
 use Rattle.frames.proofs.stores.blocks_exceed.Statement.{statement}
 use Rattle.frames.proofs.stores.blocks_exceed.Tie as tie
 
 abbrev Inv-loop : tie.InvT-loop
-Inv-loop plan cells blocks rows at₀ k₀ at k =
+Inv-loop runs cells blocks rows at₀ k₀ at k =
     (k ≤ blocks)
-    × (at + (blocks - k) * (length (runWidths plan) * rows) ≤ length cells)
-    × (blocksExceed blocks (runWidths plan) rows cells ≡ blocksExceed (blocks - k) (runWidths plan) rows (drop at cells))
+    × (at + (blocks - k) * (length (runWidths runs) * rows) ≤ length cells)
+    × (blocksExceed blocks (runWidths runs) rows cells ≡ blocksExceed (blocks - k) (runWidths runs) rows (drop at cells))
 
 abbrev μ-loop : tie.MeasureT-loop
-μ-loop plan cells blocks rows at₀ k₀ at k = blocks - k
+μ-loop runs cells blocks rows at₀ k₀ at k = blocks - k
 
 loop-holds : tie.Need-loop-holds Inv-loop μ-loop
 loop-holds c = (omega arith, rw (sub-zero, zero-add) (c .before .pre .1), rw sub-zero)
 
 -- the cells of the block at hand, and those of the blocks after it
 ahead : (c : tie.In-loop Inv-loop μ-loop)
-    → c .before .loop .at + (c .before .before .before .args .plan .columns * c .before .before .before .args .rows + (c .before .before .before .args .blocks - (c .before .loop .k + 1)) * (length (runWidths (c .before .before .before .args .plan)) * c .before .before .before .args .rows))
+    → c .before .loop .at + (c .before .before .before .args .runs .columns * c .before .before .before .args .rows + (c .before .before .before .args .blocks - (c .before .loop .k + 1)) * (length (runWidths (c .before .before .before .args .runs)) * c .before .before .before .args .rows))
     ≤ length (c .before .before .before .args .cells .now)
 ahead c =
     let l = c .before in
     let s = l .before .before in
-    omega (arith, l .loop .inv .1, blocks-cells (runWidths (s .args .plan)) (s .args .plan .columns) (s .pre .0 .columns) (s .args .rows) (s .args .cells .now) (s .args .blocks) (l .loop .k) (c .loop-test .taken))
+    omega (arith, l .loop .inv .1, blocks-cells (runWidths (s .args .runs)) (s .args .runs .columns) (s .pre .0 .columns) (s .args .rows) (s .args .cells .now) (s .args .blocks) (l .loop .k) (c .loop-test .taken))
 
 block-exceeds-requires : tie.Need-block-exceeds-requires Inv-loop μ-loop
 block-exceeds-requires c κs =

@@ -5,7 +5,7 @@ use mathlib.Core.Bool.{false}
 use Rattle.format.proofs.Tests.{one-or, one-last}
 use Rattle.layout.specs.declared.columns.Family.{Family}
 use Rattle.layout.specs.declared.columns.Family.the-variants.{Pre, Post, FrameStart, Item, FrameEnd, FodPlatform, DreamlandWhispy, StadiumTransformation}
-use Rattle.frames.specs.Stores.{cells, cellsOf}
+use Rattle.game.specs.Stores.{cells, cellsOf}
 use Rattle.frames.specs.Judge.{misfits, cellsExceed}
 use Rattle.frames.proofs.CellLaws.{stores-fit}
 use Rattle.frames.proofs.stores.cells_exceed.Statement.{statement}

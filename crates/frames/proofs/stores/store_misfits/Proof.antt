@@ -2,7 +2,8 @@
 -- Assumes nothing.
 use Prim.Native.Nat.{_*_, _≤_}
 use native.Mathlib.Omega.{arith}
-use Rattle.frames.proofs.CellLaws.{rows-most, product-small, misfits-as}
+use Rattle.players.proofs.CountLaws.{rows-most, product-small}
+use Rattle.frames.proofs.CellLaws.{misfits-as}
 use Rattle.frames.proofs.stores.store_misfits.Statement.{statement}
 use Rattle.frames.proofs.stores.store_misfits.Tie as tie
 

@@ -5,7 +5,7 @@ use Prim.Native.Nat.{ℕ, _-_, _^_, _≤_}
 use native.Mathlib.Omega.{arith}
 use lib.Dec.{leb}
 use Rattle.wire.specs.Wire.{part}
-use Rattle.frames.specs.Judge.{oneOf}
+use Rattle.format.specs.Refusal.{oneOf}
 use Rattle.frames.proofs.CellLaws.{United, unite-start, unite-step, unite-done}
 use Rattle.frames.proofs.stores.united.Statement.{statement}
 use Rattle.frames.proofs.stores.united.Tie as tie

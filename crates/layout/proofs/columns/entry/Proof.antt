@@ -2,7 +2,7 @@
 -- Assumes nothing.
 use borrow.Author.Needs.{needs}
 use Rattle.layout.specs.Columns.{columnsOf}
-use Rattle.layout.specs.Table.{table}
+use Rattle.layout.specs.Inner.{table}
 use Rattle.layout.proofs.Laws.{packed, entry-is}
 use Rattle.layout.proofs.columns.entry.Statement.{statement}
 use Rattle.layout.proofs.columns.entry.Tie as tie

@@ -6,7 +6,7 @@ use native.Mathlib.Omega.{arith}
 use borrow.Author.Needs.{needs}
 use lib.ListN.{getD}
 use Rattle.layout.specs.Columns.{col}
-use Rattle.layout.specs.Table.{table}
+use Rattle.layout.specs.Inner.{table}
 use Rattle.layout.proofs.Laws.{fits, count-is, family-at}
 use Rattle.layout.proofs.columns.nth.Statement.{statement}
 use Rattle.layout.proofs.columns.nth.Tie as tie

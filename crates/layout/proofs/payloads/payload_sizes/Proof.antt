@@ -1,16 +1,13 @@
 -- `layout::payloads::payload_sizes` meets its contract. The invariant: what was chosen of the order so far stands in the arrays.
 -- Assumes nothing.
 use mathlib.Core.Path.{_≡_, refl, sym, ap, _∙_}
-use mathlib.Core.Bool.{Bool}
-use Prim.Native.Nat.{ℕ, _-_, _≤_, _<_}
+use Prim.Native.Nat.{_-_, _≤_}
 use native.Mathlib.Omega.{arith}
 use borrow.Author.Needs.{needs}
 use lib.ListN.{length, length-map, length-set}
 use lib.Seq.{length-take-le}
 use Rattle.format.specs.Event.{codeOf}
 use Rattle.format.specs.File.{Entry}
-use Rattle.format.specs.declared.version.Version.{Version}
-use Rattle.format.specs.declared.event.Event.{Event}
 use Rattle.format.specs.declared.event.Event.the-variants.{Payloads}
 use Rattle.layout.specs.Payloads.{order, listed, payloadSize, entriesOf}
 use Rattle.layout.proofs.Laws.{Collected, collect-start, collect-take, collect-skip, collect-done}

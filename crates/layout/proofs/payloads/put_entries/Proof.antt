@@ -1,12 +1,12 @@
 -- `layout::payloads::put_entries` meets its contract.
 -- Assumes nothing.
 use mathlib.Core.Path.{refl}
-use Prim.Native.Nat.{ℕ, _-_, _≤_}
+use Prim.Native.Nat.{_-_, _≤_}
 use native.Mathlib.Omega.{arith}
 use lib.ListN.{length, drop}
 use Rattle.format.specs.File.{entriesBytes}
 use Rattle.wire.proofs.Writers.{Left, left-start, left-step, left-room, left-done}
-use Rattle.layout.specs.Payloads.{paired}
+use Rattle.layout.specs.Inner.{paired}
 use Rattle.layout.proofs.Entries.{entries-step, entries-done}
 use Rattle.layout.proofs.payloads.put_entries.Statement.{statement}
 use Rattle.layout.proofs.payloads.put_entries.Tie as tie

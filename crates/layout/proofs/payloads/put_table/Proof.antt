@@ -1,7 +1,6 @@
 -- `layout::payloads::put_table` meets its contract: a code, a size and the entries, one after the other.
 -- Assumes nothing.
 use mathlib.Core.Path.{sym, _∙_}
-use native.Mathlib.Omega.{arith}
 use borrow.Author.Needs.{needs}
 use Rattle.wire.proofs.Writers.{room-as, room-first, room-second, wrote-as, wrote-then}
 use Rattle.layout.proofs.Entries.{table-parts, table-lengths}

@@ -3,7 +3,7 @@
 use borrow.Author.Needs.{needs}
 use lib.ListN.{getD}
 use Rattle.layout.specs.Columns.{columnsOf}
-use Rattle.rows.specs.Cells.{widthAt}
+use Rattle.rows.specs.Inner.{widthAt}
 use Rattle.rows.specs.Parts.{flagsOf}
 use Rattle.rows.proofs.post.post_of.Statement.{statement}
 use Rattle.rows.proofs.post.post_of.Tie as tie

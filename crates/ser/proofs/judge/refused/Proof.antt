@@ -3,8 +3,9 @@
 use mathlib.Core.Path.{sym, _∙_}
 use borrow.Author.Needs.{needs}
 use Rattle.format.proofs.Refusals.{skip, here, none}
+use Rattle.frames.proofs.Accepted.{numbered}
 use Rattle.ser.specs.Write.{judged}
-use Rattle.ser.proofs.Laws.{with-bytes, stopped, went-on, seven, codes-as}
+use Rattle.ser.proofs.Laws.{with-bytes, stopped, went-on, codes-as}
 use Rattle.ser.proofs.judge.refused.Statement.{statement}
 use Rattle.ser.proofs.judge.refused.Tie as tie
 
@@ -14,19 +15,19 @@ returns c = stopped _ _ (with-bytes _ _ (c .before .judge .ensures) (c .before .
 
 returns-2 : tie.Need-returns-2
 unfolding judged
-returns-2 c = went-on _ _ 8 _ (with-bytes _ _ (c .before .before .before .judge .ensures) (c .before .before .before .before .before .given-bytes .ensures) (c .before .before .before .before .given-bytes2 .ensures)) (c .before .before .if1 .left) (seven _ _ _ _) (here 8 _ _ (sym (c .before .block-wrong .ensures) ∙ c .if2 .taken))
+returns-2 c = went-on _ _ _ (with-bytes _ _ (c .before .before .before .judge .ensures) (c .before .before .before .before .before .given-bytes .ensures) (c .before .before .before .before .given-bytes2 .ensures)) (c .before .before .if1 .left) (numbered _ _ _ _) (here 8 _ _ (sym (c .before .block-wrong .ensures) ∙ c .if2 .taken))
 
 returns-3 : tie.Need-returns-3
 unfolding judged
 returns-3 c =
-    went-on _ _ 8 _ (with-bytes _ _ (c .before .before .before .before .before .before .judge .ensures) (c .before .before .before .before .before .before .before .before .given-bytes .ensures) (c .before .before .before .before .before .before .before .given-bytes2 .ensures)) (c .before .before .before .before .before .if1 .left) (seven _ _ _ _)
+    went-on _ _ _ (with-bytes _ _ (c .before .before .before .before .before .before .judge .ensures) (c .before .before .before .before .before .before .before .before .given-bytes .ensures) (c .before .before .before .before .before .before .before .given-bytes2 .ensures)) (c .before .before .before .before .before .if1 .left) (numbered _ _ _ _)
     (skip 8 _ _ _ (sym (c .before .before .before .before .block-wrong .ensures) ∙ c .before .before .before .if2 .left)
     (here 9 _ _ (sym (c .before .is-bad-start .ensures) ∙ c .if3 .taken)))
 
 returns-4 : tie.Need-returns-4
 unfolding judged
 returns-4 c =
-    went-on _ _ 8 _ (with-bytes _ _ (c .before .before .before .before .before .before .before .before .before .judge .ensures) (c .before .before .before .before .before .before .before .before .before .before .before .given-bytes .ensures) (c .before .before .before .before .before .before .before .before .before .before .given-bytes2 .ensures)) (c .before .before .before .before .before .before .before .before .if1 .left) (seven _ _ _ _)
+    went-on _ _ _ (with-bytes _ _ (c .before .before .before .before .before .before .before .before .before .judge .ensures) (c .before .before .before .before .before .before .before .before .before .before .before .given-bytes .ensures) (c .before .before .before .before .before .before .before .before .before .before .given-bytes2 .ensures)) (c .before .before .before .before .before .before .before .before .if1 .left) (numbered _ _ _ _)
     (skip 8 _ _ _ (sym (c .before .before .before .before .before .before .before .block-wrong .ensures) ∙ c .before .before .before .before .before .before .if2 .left)
     (skip 9 _ _ _ (sym (c .before .before .before .before .is-bad-start .ensures) ∙ c .before .before .before .if3 .left)
     (here 10 _ _ (sym (codes-as _ _ _ _ _ (c .before .codes-wrong .ensures) (c .before .before .is-given .ensures)) ∙ c .if4 .taken))))
@@ -34,7 +35,7 @@ returns-4 c =
 returns-5 : tie.Need-returns-5
 unfolding judged
 returns-5 c =
-    went-on _ _ 8 _ (with-bytes _ _ (c .before .before .before .before .before .before .before .before .before .before .before .before .judge .ensures) (c .before .before .before .before .before .before .before .before .before .before .before .before .before .before .given-bytes .ensures) (c .before .before .before .before .before .before .before .before .before .before .before .before .before .given-bytes2 .ensures)) (c .before .before .before .before .before .before .before .before .before .before .before .if1 .left) (seven _ _ _ _)
+    went-on _ _ _ (with-bytes _ _ (c .before .before .before .before .before .before .before .before .before .before .before .before .judge .ensures) (c .before .before .before .before .before .before .before .before .before .before .before .before .before .before .given-bytes .ensures) (c .before .before .before .before .before .before .before .before .before .before .before .before .before .given-bytes2 .ensures)) (c .before .before .before .before .before .before .before .before .before .before .before .if1 .left) (numbered _ _ _ _)
     (skip 8 _ _ _ (sym (c .before .before .before .before .before .before .before .before .before .before .block-wrong .ensures) ∙ c .before .before .before .before .before .before .before .before .before .if2 .left)
     (skip 9 _ _ _ (sym (c .before .before .before .before .before .before .before .is-bad-start .ensures) ∙ c .before .before .before .before .before .before .if3 .left)
     (skip 10 _ _ _ (sym (codes-as _ _ _ _ _ (c .before .before .before .before .codes-wrong .ensures) (c .before .before .before .before .before .is-given .ensures)) ∙ c .before .before .before .if4 .left)
@@ -43,11 +44,11 @@ returns-5 c =
 returns-6 : tie.Need-returns-6
 unfolding judged
 returns-6 c =
-    went-on _ _ 8 _ (with-bytes _ _ (c .before .before .before .before .before .before .before .before .before .before .before .before .judge .ensures) (c .before .before .before .before .before .before .before .before .before .before .before .before .before .before .given-bytes .ensures) (c .before .before .before .before .before .before .before .before .before .before .before .before .before .given-bytes2 .ensures)) (c .before .before .before .before .before .before .before .before .before .before .before .if1 .left) (seven _ _ _ _)
+    went-on _ _ _ (with-bytes _ _ (c .before .before .before .before .before .before .before .before .before .before .before .before .judge .ensures) (c .before .before .before .before .before .before .before .before .before .before .before .before .before .before .given-bytes .ensures) (c .before .before .before .before .before .before .before .before .before .before .before .before .before .given-bytes2 .ensures)) (c .before .before .before .before .before .before .before .before .before .before .before .if1 .left) (numbered _ _ _ _)
     (skip 8 _ _ _ (sym (c .before .before .before .before .before .before .before .before .before .before .block-wrong .ensures) ∙ c .before .before .before .before .before .before .before .before .before .if2 .left)
     (skip 9 _ _ _ (sym (c .before .before .before .before .before .before .before .is-bad-start .ensures) ∙ c .before .before .before .before .before .before .if3 .left)
     (skip 10 _ _ _ (sym (codes-as _ _ _ _ _ (c .before .before .before .before .codes-wrong .ensures) (c .before .before .before .before .before .is-given .ensures)) ∙ c .before .before .before .if4 .left)
-    (skip 11 _ _ _ (sym (c .before .end-wrong .ensures) ∙ c .if5 .left) (none 12)))))
+    (skip 11 _ _ _ (sym (c .before .end-wrong .ensures) ∙ c .if5 .left) none))))
 
 pub refused-spec : {M : Type 1} → statement M
 refused-spec =

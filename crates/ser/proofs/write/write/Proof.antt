@@ -5,7 +5,8 @@ use native.Mathlib.Omega.{arith}
 use borrow.Author.Needs.{needs}
 use Rattle.wire.proofs.Writers.{room-first, room-second, wrote-as, wrote-then}
 use Rattle.ser.proofs.Files.{framed}
-use Rattle.ser.proofs.Outcomes.{passes, block-fits, judged-refused, short-refused, written}
+use Rattle.ser.proofs.Outcomes.{passes, judged-refused, short-refused, written}
+use Rattle.start.proofs.Refusals.{block-fits}
 use Rattle.ser.proofs.Steps.{whole, total-is, raw-fits, file-as, room}
 use Rattle.ser.proofs.write.write.Statement.{statement}
 use Rattle.ser.proofs.write.write.Tie as tie

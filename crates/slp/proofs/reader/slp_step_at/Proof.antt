@@ -1,5 +1,5 @@
 use mathlib.Core.Path.{_∙_, sym, ap}
-use Rattle.slp.specs.Answers.{stepped}
+use Rattle.slp.specs.Answers.{stepStruct}
 use borrow.Author.Needs.{needs}
 use Rattle.slp.proofs.reader.slp_step_at.Statement.{statement}
 use Rattle.slp.proofs.reader.slp_step_at.Tie as tie
@@ -18,7 +18,7 @@ step-numbers-requires c κs = search needs
 
 -- src/reader.rt:11:1
 returns : tie.Need-returns
-returns c = c .step-numbers .ensures ∙ ap stepped (c .before .step-at .ensures)
+returns c = c .step-numbers .ensures ∙ ap stepStruct (c .before .step-at .ensures)
 
 pub slp-step-at-spec : {M : Type 1} → statement M
 slp-step-at-spec = tie.close (tie.spec step-at-requires step-numbers-requires returns)

@@ -1,5 +1,5 @@
 use mathlib.Core.Path.{_∙_, sym, ap}
-use Rattle.slp.specs.Answers.{walked}
+use Rattle.slp.specs.Answers.{walkStruct}
 use borrow.Author.Needs.{needs}
 use Rattle.slp.proofs.reader.slp_walk.Statement.{statement}
 use Rattle.slp.proofs.reader.slp_walk.Tie as tie
@@ -18,7 +18,7 @@ walk-numbers-requires c κs = search needs
 
 -- src/reader.rt:18:1
 returns : tie.Need-returns
-returns c = c .walk-numbers .ensures ∙ ap walked (c .before .walk .ensures)
+returns c = c .walk-numbers .ensures ∙ ap walkStruct (c .before .walk .ensures)
 
 pub slp-walk-spec : {M : Type 1} → statement M
 slp-walk-spec = tie.close (tie.spec walk-requires walk-numbers-requires returns)

@@ -6,7 +6,8 @@ use Prim.Native.Nat.{_-_, _≤_}
 use native.Mathlib.Omega.{arith}
 use lib.ListN.{drop}
 use Rattle.format.proofs.Tests.{rest-here, rest-skip, rest-none}
-use Rattle.start.specs.Refusal.{oneOf, badSeat}
+use Rattle.format.specs.Refusal.{oneOf}
+use Rattle.start.specs.Refusal.{badSeat}
 use Rattle.start.proofs.judge.has_bad_seat.Statement.{statement}
 use Rattle.start.proofs.judge.has_bad_seat.Tie as tie
 

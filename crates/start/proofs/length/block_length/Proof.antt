@@ -2,7 +2,7 @@
 -- Assumes nothing.
 use borrow.Author.Needs.{needs}
 use Rattle.start.specs.Length.{lengthOf}
-use Rattle.start.proofs.Lengths.{entries}
+use Rattle.start.proofs.Lengths.{gates-asked, is-passed, before-all}
 use Rattle.start.proofs.length.block_length.Statement.{statement}
 use Rattle.start.proofs.length.block_length.Tie as tie
 
@@ -11,12 +11,12 @@ unfolding lengthOf
 block-length-spec =
     tie.close
     (tie.spec
-    (λ c κs. search needs) (λ c. search entries depth 12)
-    (λ c κs. search needs) (λ c. search entries depth 12)
-    (λ c κs. search needs) (λ c. search entries depth 12)
-    (λ c κs. search needs) (λ c. search entries depth 12)
-    (λ c κs. search needs) (λ c. search entries depth 12)
-    (λ c κs. search needs) (λ c. search entries depth 12)
-    (λ c κs. search needs) (λ c. search entries depth 12)
-    (λ c κs. search needs) (λ c. search entries depth 12)
-    (λ c κs. search needs) (λ c. search entries depth 12) (λ c. search entries depth 12))
+    (λ c κs. search needs) (λ c. search gates-asked depth 12)
+    (λ c κs. search needs) (λ c. search gates-asked depth 12)
+    (λ c κs. search needs) (λ c. search gates-asked depth 12)
+    (λ c κs. search needs) (λ c. search gates-asked depth 12)
+    (λ c κs. search needs) (λ c. search gates-asked depth 12)
+    (λ c κs. search needs) (λ c. search gates-asked depth 12)
+    (λ c κs. search needs) (λ c. search gates-asked depth 12)
+    (λ c κs. search needs) (λ c. search gates-asked depth 12)
+    (λ c κs. search needs) (λ c. search gates-asked depth 12) (λ c. search (is-passed, before-all) depth 12))

@@ -13,15 +13,17 @@ shared-slice-read-signed32 : tie.Need-shared-slice-read-signed32
 shared-slice-read-signed32 c = let s = c .before .before .before .before .before .before .before .before .before .before in omega (arith, s .pre .ids-fit, s .pre .players .frame)
 
 returns : tie.Need-returns
-returns c =
+returns end =
+    let c = end .before in
     let a = c .before .before .before .before .before .before .before .before .before .before .before .before .before .before .before .before .before .before .args in
     let n = c .before .before .before .before .before .before .before .signed32 in
     λ i. record {
+      version = a .f .version;
       id = cell-field (getD (a .ids .now) (a .index) 0) (record { sfits = n .ok }) (n .ensures) i;
       «port_count» = a .f .«port_count»;
       ports = c .before .before .before .before .before .before .ports-at .ensures i;
-      start = c .before .before .before .before .before .start-at .ensures i;
-      end = c .before .before .before .before .end-at .ensures i;
+      start = c .before .before .before .before .before .frame-start-at .ensures i;
+      end = c .before .before .before .before .frame-end-at .ensures i;
       items = c .before .before .before .range-at .ensures i;
       «fod_platforms» = c .before .before .range-at2 .ensures i;
       «dreamland_whispys» = c .before .range-at3 .ensures i;

@@ -8,13 +8,14 @@ use Rattle.transpose.proofs.frame.no_frame.Tie as tie
 
 returns : tie.Need-returns
 returns c =
-    let none = c .before .before .before .before .before .before .no-port .ensures in
+    let none = c .before .before .before .before .before .before .before .no-port .ensures in
     λ i. record {
+      version = c .before .before .before .before .new .ensures i;
       id = pos 0;
       «port_count» = 0;
       ports = none i ∷ none i ∷ none i ∷ none i ∷ [];
-      start = c .before .before .before .before .before .no-start .ensures i;
-      end = c .before .before .before .before .no-end .ensures i;
+      start = c .before .before .before .before .before .before .no-frame-start .ensures i;
+      end = c .before .before .before .before .before .no-frame-end .ensures i;
       items = c .before .before .before .no-range .ensures i;
       «fod_platforms» = c .before .before .no-range2 .ensures i;
       «dreamland_whispys» = c .before .no-range3 .ensures i;
@@ -25,6 +26,7 @@ pub no-frame-spec : {M : Type 1} → statement M
 no-frame-spec =
     tie.close
     (tie.spec
+    (λ c κs. search needs)
     (λ c κs. search needs)
     (λ c κs. search needs)
     (λ c κs. search needs)

@@ -4,8 +4,8 @@ use mathlib.Core.Path.{sym, _∙_}
 use Prim.Native.Nat.{_+_}
 use native.Mathlib.Omega.{arith}
 use borrow.Author.Needs.{needs}
-use Rattle.frames.specs.Accepted.{Ranges}
-use Rattle.frames.specs.Input.{rowsOf}
+use Rattle.players.specs.Inner.{Ranges}
+use Rattle.game.specs.Frames.{rowsOf}
 use Rattle.transpose.specs.Frame.{rangeAt}
 use Rattle.transpose.proofs.frame.range_at.Statement.{statement}
 use Rattle.transpose.proofs.frame.range_at.Tie as tie

@@ -3,9 +3,9 @@
 use Prim.Native.Nat.{_+_, _<_}
 use native.Mathlib.Omega.{arith}
 use lib.ListN.{length}
-use Rattle.frames.specs.Input.{portsOf, slotsOf}
-use Rattle.frames.proofs.SlotLaws.{slots-few}
-use Rattle.transpose.proofs.Slotting.{leader-slot, follower-slot, playing, port-none, port-one, port-both}
+use Rattle.game.specs.Frames.{portsOf, slotsOf}
+use Rattle.players.proofs.SlotLaws.{slots-few, leader-slot, follower-slot}
+use Rattle.transpose.proofs.Slotting.{playing, port-none, port-one, port-both}
 use Rattle.transpose.proofs.ports.port_at.Statement.{statement}
 use Rattle.transpose.proofs.ports.port_at.Tie as tie
 
@@ -21,21 +21,21 @@ returns c =
 port-requires : tie.Need-port-requires
 port-requires c κs = inside c
 
-first-slot-requires : tie.Need-first-slot-requires
-first-slot-requires c κs = omega (arith, inside (c .before))
+slots-before-requires : tie.Need-slots-before-requires
+slots-before-requires c κs = omega (arith, inside (c .before))
 
 data-at-requires : tie.Need-data-at-requires
 data-at-requires c κs =
     let s = c .before .before .before .before .before .before in
     let l = leader-slot (s .args .f) (s .args .k) (c .before .port .result) (inside (c .before .before)) (c .before .port .ensures) in
-    playing (c .first-slot .result) (s .pre) (omega (arith, l, c .first-slot .ensures))
+    playing (c .slots-before .result) (s .pre) (omega (arith, l, c .slots-before .ensures))
 
 -- the follower's slot is there
-second : (c : tie.Then2) → c .before .before .before .first-slot .result + 1 < length (slotsOf (c .before .before .before .before .before .before .before .before .before .args .f))
+second : (c : tie.Then2) → c .before .before .before .slots-before .result + 1 < length (slotsOf (c .before .before .before .before .before .before .before .before .before .args .f))
 second c =
     let s = c .before .before .before .before .before .before .before .before .before in
     let p = c .before .before .before .before in
-    omega (arith, follower-slot (s .args .f) (s .args .k) (p .port .result) (inside (p .before)) (p .port .ensures) (c .before .has-follower .ensures) (c .if2 .taken), c .before .before .before .first-slot .ensures)
+    omega (arith, follower-slot (s .args .f) (s .args .k) (p .port .result) (inside (p .before)) (p .port .ensures) (c .before .has-follower .ensures) (c .if2 .taken), c .before .before .before .slots-before .ensures)
 
 add-data-at : tie.Need-add-data-at
 add-data-at c = omega (arith, second c, slots-few (c .before .before .before .before .before .before .before .before .before .args .f))
@@ -47,13 +47,13 @@ returns-2 : tie.Need-returns-2
 returns-2 c =
     let a = c .before .before .before .before .before .before .before .before .before .before .args in
     let p = c .before .before .before .before .before in
-    port-both (a .f) (a .pres .now) (a .posts .now) (a .index) (a .k) (inside (p .before)) (p .port .ensures) (c .before .before .before .before .first-slot .ensures) (c .before .before .has-follower .ensures) (c .before .before .before .data-at .ensures) (c .before .if2 .taken) (c .data-at2 .ensures)
+    port-both (a .f) (a .pres .now) (a .posts .now) (a .index) (a .k) (inside (p .before)) (p .port .ensures) (c .before .before .before .before .slots-before .ensures) (c .before .before .has-follower .ensures) (c .before .before .before .data-at .ensures) (c .before .if2 .taken) (c .data-at2 .ensures)
 
 returns-3 : tie.Need-returns-3
 returns-3 c =
     let a = c .before .before .before .before .before .before .before .before .before .before .args in
     let p = c .before .before .before .before .before in
-    port-one (a .f) (a .pres .now) (a .posts .now) (a .index) (a .k) (inside (p .before)) (p .port .ensures) (c .before .before .before .before .first-slot .ensures) (c .before .before .has-follower .ensures) (c .before .before .before .data-at .ensures) (c .before .if2 .left) (c .no-data .ensures)
+    port-one (a .f) (a .pres .now) (a .posts .now) (a .index) (a .k) (inside (p .before)) (p .port .ensures) (c .before .before .before .before .slots-before .ensures) (c .before .before .has-follower .ensures) (c .before .before .before .data-at .ensures) (c .before .if2 .left) (c .no-data .ensures)
 
 pub port-at-spec : {M : Type 1} → statement M
 port-at-spec =
@@ -63,7 +63,7 @@ port-at-spec =
     (λ c κs. tt)
     returns
     port-requires
-    first-slot-requires
+    slots-before-requires
     data-at-requires
     (λ c κs. tt)
     add-data-at

@@ -8,13 +8,13 @@ use Rattle.transpose.proofs.records.stadium_transformation_row.Statemen
 use Rattle.transpose.proofs.records.stadium_transformation_row.Tie as tie
 
 returns : tie.Need-returns
-returns c = answered-none stadiumTransformationAnswer _ (c .before .before .refused .ensures) (c .before .if1 .taken) (c .no-stadium-transformation .ensures)
+returns c = answered-none stadiumTransformationAnswer _ (c .before .before .row-refused .ensures) (c .before .if1 .taken) (c .no-stadium-transformation .ensures)
 
 stadium-transformation-at-requires : tie.Need-stadium-transformation-at-requires
-stadium-transformation-at-requires c κs = reachable _ _ _ _ _ (sym (c .before .refused .ensures) ∙ c .if1 .left)
+stadium-transformation-at-requires c κs = reachable _ _ _ _ _ (sym (c .before .row-refused .ensures) ∙ c .if1 .left)
 
 returns-2 : tie.Need-returns-2
-returns-2 c = answered-row stadiumTransformationAnswer _ (sym (c .before .before .refused .ensures) ∙ c .before .if1 .left) (c .stadium-transformation-at .ensures)
+returns-2 c = answered-row stadiumTransformationAnswer _ (sym (c .before .before .row-refused .ensures) ∙ c .before .if1 .left) (c .stadium-transformation-at .ensures)
 
 pub stadium-transformation-row-spec : {M : Type 1} → statement M
 stadium-transformation-row-spec = tie.close (tie.spec (λ c κs. search needs) (λ c κs. search needs) returns stadium-transformation-at-requires returns-2)

@@ -1,0 +1,4 @@
+pub mod Heads
+pub mod Steps
+pub mod Written
+pub mod Only

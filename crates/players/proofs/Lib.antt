@@ -1,0 +1,4 @@
+pub mod SlotLaws
+pub mod PresenceLaws
+pub mod CountLaws
+pub mod Cases

@@ -1,0 +1,45 @@
+-- `start::block::put_match` meets its contract.
+-- Assumes nothing.
+use mathlib.Core.Path.{sym, _∙_}
+use native.Mathlib.Omega.{arith}
+use borrow.Author.Needs.{needs}
+use Rattle.wire.proofs.Writers.{room-number}
+use Rattle.start.specs.Gate.{matchFrom}
+use Rattle.start.specs.Block.{matchFields}
+use Rattle.start.proofs.Lengths.{long-enough}
+use Rattle.patch.proofs.Patches.{patched-then, patched-one, patched-on, patched-off}
+use Rattle.start.proofs.Refusals.{short-text}
+use Rattle.start.proofs.block.put_match.Statement.{statement}
+use Rattle.start.proofs.block.put_match.Tie as tie
+
+put-match-id-requires : tie.Need-put-match-id-requires
+put-match-id-requires c κs =
+    let on = sym (c .before .before .reached .ensures) ∙ c .before .if1 .taken in
+    (short-text _ matchFrom 50 _ (c .before .before .before .before .pre .1) on, omega (arith, long-enough _ 0 on))
+
+put-u32-requires : tie.Need-put-u32-requires
+put-u32-requires c κs =
+    let on = sym (c .before .before .before .before .before .before .reached .ensures) ∙ c .before .before .before .before .before .if1 .taken in
+    room-number _ _ 4 _ (omega (arith, long-enough _ 0 on))
+
+put-u32-requires-2 : tie.Need-put-u32-requires-2
+put-u32-requires-2 c κs =
+    let on = sym (c .before .before .before .before .before .before .before .before .before .before .reached .ensures) ∙ c .before .before .before .before .before .before .before .before .before .if1 .taken in
+    room-number _ _ 4 _ (omega (arith, long-enough _ 0 on))
+
+returns : tie.Need-returns
+unfolding matchFields
+returns c =
+    let c1 = c .before .before .before .before .before .before .before .before .before .before in
+    patched-on _ _ (c1 .before .before .before .reached .ensures) (c1 .before .before .if1 .taken)
+    (patched-then (c1 .put-match-id .ensures)
+    (patched-then (patched-one (c .before .before .before .before .before .before .put-u32 .ensures)) (patched-one (c .before .before .put-u322 .ensures))))
+
+returns-2 : tie.Need-returns-2
+unfolding matchFields
+returns-2 c = patched-off _ _ _ _ (c .before .reached .ensures) (c .if1 .left)
+
+pub put-match-spec : {M : Type 1} → statement M
+put-match-spec =
+    tie.close
+    (tie.spec (λ c κs. search needs) put-match-id-requires put-u32-requires put-u32-requires-2 (λ c. search needs) returns returns-2)

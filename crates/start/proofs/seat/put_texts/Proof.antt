@@ -1,0 +1,39 @@
+-- `start::seat::put_texts` meets its contract.
+-- Assumes nothing.
+use lib.Dec.{lit≤}
+use native.Mathlib.Omega.{arith}
+use borrow.Author.Needs.{needs}
+use Rattle.start.specs.Block.{textFields}
+use Rattle.start.proofs.Lengths.{long-enough}
+use Rattle.patch.proofs.Patches.{patched-then}
+use Rattle.start.proofs.Refusals.{short-texts}
+use Rattle.start.proofs.seat.put_texts.Statement.{statement}
+use Rattle.start.proofs.seat.put_texts.Tie as tie
+
+put-text-requires : tie.Need-put-text-requires
+put-text-requires c κs = (lit≤ tt, λ on. omega (arith, long-enough _ 7 on, short-texts _ _ (c .before .before .before .pre .2) .tag on))
+
+put-text-requires-2 : tie.Need-put-text-requires-2
+put-text-requires-2 c κs = (lit≤ tt, λ on. omega (arith, long-enough _ 3 on, short-texts _ _ (c .before .before .before .before .before .before .before .pre .2) .name on))
+
+put-text-requires-3 : tie.Need-put-text-requires-3
+put-text-requires-3 c κs = (lit≤ tt, λ on. omega (arith, long-enough _ 3 on, short-texts _ _ (c .before .before .before .before .before .before .before .before .before .before .before .pre .2) .code on))
+
+put-text-requires-4 : tie.Need-put-text-requires-4
+put-text-requires-4 c κs = (lit≤ tt, λ on. omega (arith, long-enough _ 2 on, short-texts _ _ (c .before .before .before .before .before .before .before .before .before .before .before .before .before .before .before .pre .2) .suid on))
+
+returns : tie.Need-returns
+unfolding textFields
+returns c =
+    let c3 = c .before .before .before .before .before .before in
+    let c2 = c3 .before .before .before .before in
+    let c1 = c2 .before .before .before .before in
+    patched-then (c1 .put-text .ensures) (patched-then (c2 .put-text2 .ensures) (patched-then (c3 .put-text3 .ensures) (c .before .before .put-text4 .ensures)))
+
+pub put-texts-spec : {M : Type 1} → statement M
+put-texts-spec =
+    tie.close
+    (tie.spec
+    (λ c. search needs) (λ c. search needs) put-text-requires (λ c. search needs) (λ c. search needs)
+    put-text-requires-2 (λ c. search needs) (λ c. search needs) put-text-requires-3 (λ c. search needs)
+    (λ c. search needs) put-text-requires-4 (λ c. search needs) returns)
