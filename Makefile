@@ -23,8 +23,8 @@ PROGRAMS := $(basename $(notdir $(wildcard tests/c/programs/*.c tests/c/programs
 SHARED_OBJECTS := $(patsubst %.c,target/c/%.o,$(wildcard tests/c/shared/*.c tests/c/model/*.c))
 EXAMPLES := $(basename $(notdir $(wildcard examples/*.c)))
 # Programs that must fail over a library with a fault.
-FAULTED := cases refusals fuzz rows eights layout
-TESTS := $(PROGRAMS:%=target/c/bin/%) target/c/bin/header_examples $(EXAMPLES:%=target/c/examples/%) $(FAULTED:%=target/c/faults/%)
+FAULTED := cases refusals fuzz rows eights layout stack
+TESTS := $(PROGRAMS:%=target/c/bin/%) target/c/bin/header_examples target/c/bin/stack $(EXAMPLES:%=target/c/examples/%) $(FAULTED:%=target/c/faults/%)
 
 .PHONY: all lib tests test test-rust examples install uninstall clean help always
 .DELETE_ON_ERROR:
@@ -76,6 +76,14 @@ target/c/bin/threads: LDLIBS += -pthread
 target/c/bin/%: target/c/tests/c/programs/%.o $(SHARED_OBJECTS) $(SLP_LIB)
 	@mkdir -p $(@D)
 	$(CC) $(CFLAGS) $(LDFLAGS) -o $@ $^ $(LDLIBS)
+
+# How deep the stack gets: a benchmark, whose check is a test. Names are bound at the start, so that the loader takes none of the painted stack.
+target/c/bin/stack: target/c/bench/stack.o $(SLP_LIB)
+	@mkdir -p $(@D)
+	$(CC) $(CFLAGS) $(LDFLAGS) -Wl,-z,now -o $@ $^
+
+target/c/faults/stack: target/c/bench/stack.o target/c/tests/c/faults.o target/c/faults/slp.o
+	$(CC) $(CFLAGS) $(LDFLAGS) -Wl,-z,now -o $@ $^
 
 # The library with its calls under other names, and the faults in front of it.
 target/c/faults/slp.o: $(SLP_LIB) Makefile

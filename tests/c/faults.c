@@ -1,5 +1,6 @@
 /* A library that does one thing wrong, to see that the tests notice: it stands between the tests and the real calls, whose names begin with
  * real_. $SLP_FAULT names the fault; faults.sh takes the names from here, one a line. */
+#include <alloca.h>
 #include <slp.h>
 #include <stdlib.h>
 #include <string.h>
@@ -169,11 +170,23 @@ static slp_game misread(slp_game g)
 	return g;
 }
 
+/* A copy of the start block on the stack, as it would be for patching it there. */
+static size_t copied_len(size_t len)
+{
+	return faulty("write-copy") ? len : 1;
+}
+
+static const uint8_t *copied(const uint8_t *block, size_t len, uint8_t *to)
+{
+	return copied_len(len) == len && len > 1 ? memcpy(to, block, len) : block;
+}
+
 slp_written slp_write(uint8_t *out, size_t out_len, slp_game game, SLP_STORE_PARAMETERS, const uint8_t *template_block, size_t template_len,
                       const uint8_t *codes, size_t codes_len, const uint8_t *metadata, size_t metadata_len)
 {
 	presence = present_in_eighth(&game.frames, presence, presence_len);
 	item_offsets = late_from_eighth(item_offsets, item_offsets_len);
+	template_block = copied(template_block, template_len, alloca(copied_len(template_len)));
 	slp_written w = real_slp_write(out, out_len, misread(game), STORES, template_block, template_len, codes, codes_len, metadata,
 	                               metadata_len);
 	return spoiled(w, out, out_len, metadata, metadata_len);

@@ -34,21 +34,18 @@ struct Stop {
 pub fn step_at(file: &[u8], place: usize) -> Step
     ensures { λ r. ⌜ stepNumbers r ≡ stepNumbers (stepOf (now (file .entry)) place) ⌝ }
 {
-    let h = head::table::parse_head(file);
+    let mut spans = [0u32; 256];
+    let h = head::table::parse_head(file, &mut spans);
     if h.refusal != 0 {
         return Step::Refused {
             number: h.refusal,
             offset: h.offset,
         };
     }
-    let table = h.table;
-    let codes = table.codes;
-    let sizes = table.sizes;
-    let spans = h.spans;
-    let n = head::near(table.len);
+    let n = head::near(h.table.len);
     head::in_data(
-        &codes,
-        &sizes,
+        &h.table.codes,
+        &h.table.sizes,
         n,
         &spans,
         h.first,
@@ -60,9 +57,9 @@ pub fn step_at(file: &[u8], place: usize) -> Step
 }
 
 // The walking loop: one step after another from the first event on, until one is no event.
-fn walk_events(
-    codes: &[u8],
-    sizes: &[u16],
+fn walk_events<'a>(
+    codes: &'a [u8],
+    sizes: &'a [u16],
     n: usize,
     spans: &[u32],
     first: usize,
@@ -132,18 +129,24 @@ fn finish(done: Stop, stop: usize) -> Walked
 pub fn walk(file: &[u8]) -> Walked
     ensures { λ r. ⌜ walkNumbers r ≡ walkNumbers (walkOf (now (file .entry))) ⌝ }
 {
-    let h = head::table::parse_head(file);
+    let mut spans = [0u32; 256];
+    let h = head::table::parse_head(file, &mut spans);
     if h.refusal != 0 {
         return Walked::Refused {
             number: h.refusal,
             offset: h.offset,
         };
     }
-    let table = h.table;
-    let codes = table.codes;
-    let sizes = table.sizes;
-    let spans = h.spans;
-    let n = head::near(table.len);
-    let done = walk_events(&codes, &sizes, n, &spans, h.first, h.stop, h.whole, file);
+    let n = head::near(h.table.len);
+    let done = walk_events(
+        &h.table.codes,
+        &h.table.sizes,
+        n,
+        &spans,
+        h.first,
+        h.stop,
+        h.whole,
+        file,
+    );
     finish(done, h.stop)
 }

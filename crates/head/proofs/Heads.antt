@@ -10,7 +10,7 @@ use native.Mathlib.Decide.{ℕ-discrete}
 use native.Mathlib.Omega.{arith}
 use borrow.Author.Tests.{lt-ltb, le-ltb, eq-eqb, ne-eqb, ltb-false, eqb-true, not-false}
 use lib.Dec.{eqb, ltb}
-use lib.ListN.{length, getD, drop, set, length-set, drop-of-length-le, List·getD-eq-default}
+use lib.ListN.{length, getD, drop, set, length-set, drop-of-length-le, getD-replicate, List·getD-eq-default}
 use lib.Seq.{drop-cons, getD-drop, drop-drop, getD-set-same, getD-set-other}
 use Rattle.wire.specs.Wire.{more, number, part}
 use Rattle.wire.proofs.Laws.{tabulate-length, tabulate-at, tabulated, stored}
@@ -20,7 +20,7 @@ use Rattle.format.specs.Refusal.{refuse}
 use Rattle.format.proofs.Refusals.{skip, here, none}
 use Rattle.format.proofs.Tests.{or-none}
 use Rattle.head.specs.Table.{startsWith, stopOf, allPresent, entriesIn, tableOf, firstPlace, spanOf, codeTwice, tableMissing, unsigned, untabled, headRefusal, headOffset}
-use Rattle.head.specs.Inner.{listOf, Sound, Indexed, Agree, HeadOf}
+use Rattle.head.specs.Inner.{listOf, Sound, Blank, Indexed, Agree, HeadOf}
 use Rattle.head.specs.declared.table.Head.{Head}
 use Rattle.head.specs.declared.table.Table.{Table}
 
@@ -126,11 +126,11 @@ pub record Once (spans : List ℕ) (t : Table) (i : ℕ) : Type 0 where
   pub index : Indexed spans (drop i (listOf t))
   pub agree : (j : ℕ) → i ≤ j → j < t .len → getD spans (getD (t .codes) j 0) 0 ≡ 1 + getD (t .sizes) j 0
 
-pub once-none : {spans : List ℕ} (t : Table) → length spans ≡ 256 → ((c : ℕ) → c < 256 → getD spans c 0 ≡ 0) → Once spans t (t .len)
+pub once-none : {spans : List ℕ} (t : Table) → Blank spans → Once spans t (t .len)
 unfolding codeTwice spanOf
-once-none t e z =
+once-none t b =
     let n : drop (t .len) (listOf t) ≡ [] = drop-of-length-le (listOf t) {i = t .len} (omega (arith, length-list t)) in
-    record { once = rw n; index = rw n (record { many = e; spans-are = z }); agree = λ j h l. absurd (omega arith) }
+    record { once = rw n; index = rw (n, b .empty) (record { many = refl; spans-are = λ k h. getD-replicate 256 k 0 0 h }); agree = λ j h l. absurd (omega arith) }
 
 -- a turn of the loop that fills the index: the entry before those that stand in it
 module _ (t : Table) (i c : ℕ) {spans : List ℕ} (g : Once spans t i) (is : c ≡ getD (t .codes) (i - 1) 0) (small : c < 256) (more : 0 < i) (within : i ≤ t .len) where
@@ -202,45 +202,46 @@ pub signed-is : (f : List ℕ) → 15 ≤ length f → unsigned f ≡ not (start
 unfolding unsigned
 signed-is f h = rw (le-ltb (length f) 15 h)
 
-head-refused : (h : Head) (f : List ℕ) (n o : ℕ) → (h .refusal ≡ suc n) × (h .offset ≡ o) → o ≡ headOffset (suc n) → suc n ≡ headRefusal f → HeadOf h f
-head-refused h f n o p r s = record {
-  refusal-is = p .0 ∙ s;
-  offset-is = p .1 ∙ r ∙ ap headOffset s;
-  opened = λ z. let e : suc n ≡ 0 = s ∙ z in absurd (omega arith);
-}
+module _ (h : Head) (spans f : List ℕ) where
+  head-refused : (n o : ℕ) → (h .refusal ≡ suc n) × (h .offset ≡ o) → o ≡ headOffset (suc n) → suc n ≡ headRefusal f → HeadOf h spans f
+  head-refused n o p r s = record {
+    refusal-is = p .0 ∙ s;
+    offset-is = p .1 ∙ r ∙ ap headOffset s;
+    opened = λ z. let e : suc n ≡ 0 = s ∙ z in absurd (omega arith);
+  }
 
-pub head-14 : (h : Head) (f : List ℕ) → (h .refusal ≡ 14) × (h .offset ≡ 0) → unsigned f ≡ true → HeadOf h f
-unfolding headRefusal
-head-14 h f p e = head-refused h f 13 0 p refl (here 14 (unsigned f) (refuse 15 (untabled f) ∷ []) e)
-
-module _ (h : Head) (f : List ℕ) (signed : unsigned f ≡ false) where
-  pub head-15 : (h .refusal ≡ 15) × (h .offset ≡ 15) → untabled f ≡ true → HeadOf h f
+  pub head-14 : (h .refusal ≡ 14) × (h .offset ≡ 0) → unsigned f ≡ true → HeadOf h spans f
   unfolding headRefusal
-  head-15 p e = head-refused h f 14 15 p refl (skip 14 15 (unsigned f) (refuse 15 (untabled f) ∷ []) signed (here 15 (untabled f) [] e))
+  head-14 p e = head-refused 13 0 p refl (here 14 (unsigned f) (refuse 15 (untabled f) ∷ []) e)
 
-  module _ (there : tableMissing f ≡ false) (once : codeTwice (tableOf f) ≡ false) where
-    read : 0 ≡ headRefusal f
-    unfolding headRefusal untabled
-    read = skip 14 0 (unsigned f) (refuse 15 (untabled f) ∷ []) signed (skip 15 0 (untabled f) [] (rw (there, once)) none)
+  module _ (signed : unsigned f ≡ false) where
+    pub head-15 : (h .refusal ≡ 15) × (h .offset ≡ 15) → untabled f ≡ true → HeadOf h spans f
+    unfolding headRefusal
+    head-15 p e = head-refused 14 15 p refl (skip 14 15 (unsigned f) (refuse 15 (untabled f) ∷ []) signed (here 15 (untabled f) [] e))
 
-    pub head-read : (h .refusal ≡ 0) × (h .offset ≡ 0) → Sound (h .table) → Agree (h .table .codes) (h .table .sizes) (h .table .len) (h .spans) → Indexed (h .spans) (tableOf f)
-        → h .first ≡ firstPlace (tableOf f) → (h .stop ≡ stopOf f) × (h .whole ≡ allPresent f) × (h .stop ≤ length f) → HeadOf h f
-    head-read p sound agree index first bounds = record {
-      refusal-is = p .0 ∙ read;
-      offset-is = p .1 ∙ ap headOffset read;
-      opened = λ z n l. record {
-        accepted = z;
-        in-codes = omega (arith, sound);
-        in-sizes = omega (arith, sound);
-        agree = λ i m. agree i (omega arith);
-        index = index;
-        first-is = first;
-        stop-is = bounds .0;
-        whole-is = bounds .1;
-        starts = omega (arith, first-by-size f there, table-there f there);
-        within = bounds .2;
-      };
-    }
+    module _ (there : tableMissing f ≡ false) (once : codeTwice (tableOf f) ≡ false) where
+      read : 0 ≡ headRefusal f
+      unfolding headRefusal untabled
+      read = skip 14 0 (unsigned f) (refuse 15 (untabled f) ∷ []) signed (skip 15 0 (untabled f) [] (rw (there, once)) none)
+
+      pub head-read : (h .refusal ≡ 0) × (h .offset ≡ 0) → Sound (h .table) → Agree (h .table .codes) (h .table .sizes) (h .table .len) spans → Indexed spans (tableOf f)
+          → h .first ≡ firstPlace (tableOf f) → (h .stop ≡ stopOf f) × (h .whole ≡ allPresent f) × (h .stop ≤ length f) → HeadOf h spans f
+      head-read p sound agree index first bounds = record {
+        refusal-is = p .0 ∙ read;
+        offset-is = p .1 ∙ ap headOffset read;
+        opened = λ z n l. record {
+          accepted = z;
+          in-codes = omega (arith, sound);
+          in-sizes = omega (arith, sound);
+          agree = λ i m. agree i (omega arith);
+          index = index;
+          first-is = first;
+          stop-is = bounds .0;
+          whole-is = bounds .1;
+          starts = omega (arith, first-by-size f there, table-there f there);
+          within = bounds .2;
+        };
+      }
 
 -- ---- where the events start, by the size byte alone
 

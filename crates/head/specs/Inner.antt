@@ -4,7 +4,7 @@ use Prim.Native.Nat.{ℕ, _+_, _≤_, _<_}
 use mathlib.Core.Path.{_≡_}
 use mathlib.Core.Bool.{Bool}
 use mathlib.Core.List.{List}
-use lib.ListN.{length, getD}
+use lib.ListN.{length, getD, replicate}
 use Rattle.wire.specs.Wire.{tabulate}
 use Rattle.format.specs.File.{Entry}
 use Rattle.head.specs.Table.{stopOf, allPresent, tableOf, firstPlace, spanOf, headRefusal, headOffset}
@@ -22,6 +22,10 @@ pub record Sound (t : Table) : Type 0 where
   pub few : t .len ≤ 84
   pub codes-many : length (t .codes) ≡ 84
   pub sizes-many : length (t .sizes) ≡ 84
+
+-- room for an index, with nothing in it
+pub record Blank (spans : List ℕ) : Type 0 where
+  pub empty : spans ≡ replicate 256 0
 
 -- at each code, the bytes that its events take
 pub record Indexed (spans : List ℕ) (t : List Entry) : Type 0 where
@@ -47,11 +51,11 @@ pub record Opened (codes sizes : List ℕ) (n : ℕ) (spans : List ℕ) (first s
   pub within : stop ≤ length f
 
 -- what the head of a file gives: its refusal, or what reading events needs
-pub record HeadOf (h : Head) (f : List ℕ) : Type 0 where
+pub record HeadOf (h : Head) (spans f : List ℕ) : Type 0 where
   pub refusal-is : h .refusal ≡ headRefusal f
   pub offset-is : h .offset ≡ headOffset (headRefusal f)
   pub opened : headRefusal f ≡ 0 → (n : ℕ) → n ≤ h .table .len
-      → Opened (h .table .codes) (h .table .sizes) n (h .spans) (h .first) (h .stop) (h .whole) f
+      → Opened (h .table .codes) (h .table .sizes) n spans (h .first) (h .stop) (h .whole) f
 
 -- an event ends after its place, and within the data
 abbrev pub Advances : ℕ → ℕ → Step → Type 0

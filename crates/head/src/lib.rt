@@ -84,9 +84,9 @@ fn event_at(code: u8, span: usize, place: usize, stop: usize, whole: bool) -> St
 
 // What stands at a place of a file, by what its head gave. The table's arrays are lent: a walk calls this at every event, and handing the
 // table over by value each time would take twice as long.
-pub fn in_data(
-    codes: &[u8],
-    sizes: &[u16],
+pub fn in_data<'a>(
+    codes: &'a [u8],
+    sizes: &'a [u16],
     n: usize,
     spans: &[u32],
     first: usize,

@@ -6,7 +6,7 @@ ghost use lib.ListN.{length, drop};
 ghost use Rattle.wire.specs.Wire.{number, part};
 ghost use Rattle.format.specs.Event.{signature};
 ghost use Rattle.head.specs.Table.{startsWith, stopOf, allPresent, entriesIn, tableOf, firstPlace, codeTwice, tableMissing, unsigned};
-ghost use Rattle.head.specs.Inner.{listOf, Sound, Indexed, Agree, HeadOf};
+ghost use Rattle.head.specs.Inner.{listOf, Sound, Blank, Indexed, Agree, HeadOf};
 use format::event::FILE_SIGNATURE;
 use format::refusal::BAD_TABLE;
 use format::refusal::NOT_A_REPLAY;
@@ -18,25 +18,17 @@ pub struct Table {
     pub len: usize,
 }
 
-// How many bytes an event takes, code and payload, at its code; 0 where the table lacks the code.
-pub struct Index {
-    // No code stands twice.
-    pub once: bool,
-    pub spans: [u32; 256],
-}
-
 // Where the event data that is present ends, and whether that is its declared end.
 pub struct Bounds {
     pub stop: usize,
     pub whole: bool,
 }
 
-// The number and offset of a refusal, or 0 and what reading events needs.
+// The number and offset of a refusal, or 0 and what reading events needs beside the table's index.
 pub struct Head {
     pub refusal: u8,
     pub offset: usize,
     pub table: Table,
-    pub spans: [u32; 256],
     pub first: usize,
     pub stop: usize,
     pub whole: bool,
@@ -131,23 +123,23 @@ fn entries(file: &[u8], n: usize) -> Table
     }
 }
 
-// The index by code, filled from the last entry to the first.
-fn index_of(t: Table) -> Index
-    requires { ⌜ t .len ≤ 84 ⌝ }
-    ensures { λ r. ⌜ r .once ≡ not (codeTwice (listOf t)) ⌝ }
-    ensures { λ r. ⌜ (codeTwice (listOf t) ≡ false → Indexed (r .spans) (listOf t) × Agree (t .codes) (t .sizes) (t .len) (r .spans)) ⌝ }
+// The index by code, filled from the last entry to the first: how many bytes an event takes, code and payload, and 0 where the table lacks
+// the code. Answers whether no code stands twice.
+fn index_of(t: Table, spans: &mut [u32]) -> bool
+    requires { ⌜ (t .len ≤ 84) × Blank (now spans) ⌝ }
+    ensures { λ r. ⌜ r ≡ not (codeTwice (listOf t)) ⌝ }
+    ensures { λ r. ⌜ (codeTwice (listOf t) ≡ false → Indexed (now (spans .exit)) (listOf t) × Agree (t .codes) (t .sizes) (t .len) (now (spans .exit))) ⌝ }
 {
-    let mut spans = [0u32; 256];
     let mut i = t.len;
     while 0 < i {
         i -= 1;
         let c = wire::wide(t.codes[i]);
         if 0 < spans[c] {
-            return Index { once: false, spans };
+            return false;
         }
         spans[c] = span(t.sizes[i]);
     }
-    Index { once: true, spans }
+    true
 }
 
 fn refused(refusal: u8, offset: usize) -> Head
@@ -162,7 +154,6 @@ fn refused(refusal: u8, offset: usize) -> Head
         refusal,
         offset,
         table,
-        spans: [0u32; 256],
         first: 0,
         stop: 0,
         whole: false,
@@ -170,9 +161,9 @@ fn refused(refusal: u8, offset: usize) -> Head
 }
 
 // The table and the event data of a file whose signature is right.
-fn tabled(file: &[u8]) -> Head
-    requires { ⌜ (15 ≤ length (now file)) × (unsigned (now file) ≡ false) ⌝ }
-    ensures { λ r. ⌜ HeadOf r (now (file .entry)) ⌝ }
+fn tabled(file: &[u8], spans: &mut [u32]) -> Head
+    requires { ⌜ (15 ≤ length (now file)) × (unsigned (now file) ≡ false) × Blank (now spans) ⌝ }
+    ensures { λ r. ⌜ HeadOf r (now (spans .exit)) (now (file .entry)) ⌝ }
 {
     let b = bounds_of(file);
     let stop = b.stop;
@@ -181,14 +172,11 @@ fn tabled(file: &[u8]) -> Head
     }
     let n = wire::wide(file[16]) / 3;
     let table = entries(file, n);
-    let index = index_of(table);
-    if index.once {
-        let spans = index.spans;
+    if index_of(table, spans) {
         Head {
             refusal: 0,
             offset: 0,
             table,
-            spans,
             first: 17 + 3 * n,
             stop,
             whole: b.whole,
@@ -198,15 +186,17 @@ fn tabled(file: &[u8]) -> Head
     }
 }
 
-// The head of any file.
-pub fn parse_head(file: &[u8]) -> Head
-    ensures { λ r. ⌜ HeadOf r (now (file .entry)) ⌝ }
+// The head of any file. The table's index goes where the caller has room for it: by value its 1,024 bytes would be copied at every
+// return on the way.
+pub fn parse_head(file: &[u8], spans: &mut [u32]) -> Head
+    requires { ⌜ Blank (now spans) ⌝ }
+    ensures { λ r. ⌜ HeadOf r (now (spans .exit)) (now (file .entry)) ⌝ }
 {
     if file.len() < 15 {
         return refused(NOT_A_REPLAY, 0);
     }
     if signed(file) {
-        tabled(file)
+        tabled(file, spans)
     } else {
         refused(NOT_A_REPLAY, 0)
     }

@@ -2,7 +2,7 @@
 ghost use mathlib.Core.Path.{_≡_};
 ghost use Rattle.layout.specs.declared.columns.Family.the-variants as family;
 ghost use Rattle.rows.specs.Inner.{Within};
-ghost use Rattle.rows.specs.Rows.{itemOf, noItem};
+ghost use Rattle.rows.specs.Rows.{itemOf};
 use super::float::float_of;
 use super::parts::ItemMisc;
 use super::parts::Position;
@@ -48,11 +48,4 @@ pub fn item_of(raw: [u32; 32], version: Version) -> Item
         owner: signed8(raw[14]),
         instance_id: raw[15] as u16,
     }
-}
-
-// The row that stands for none: all zero.
-pub fn no_item() -> Item
-    ensures { λ r. ⌜ r ≡ noItem ⌝ }
-{
-    item_of([0; 32], Version::new(0, 0, 0))
 }

@@ -2,7 +2,7 @@
 ghost use mathlib.Core.Path.{_≡_};
 ghost use Rattle.layout.specs.declared.columns.Family.the-variants as family;
 ghost use Rattle.rows.specs.Inner.{Within};
-ghost use Rattle.rows.specs.Rows.{postOf, noPost};
+ghost use Rattle.rows.specs.Rows.{postOf};
 use super::float::float_of;
 use super::parts::Position;
 use super::parts::StateFlags;
@@ -77,11 +77,4 @@ pub fn post_of(raw: [u32; 32], version: Version) -> Post
         last_hit_by_instance: raw[30] as u16,
         instance_id: raw[31] as u16,
     }
-}
-
-// The row that stands for none: all zero.
-pub fn no_post() -> Post
-    ensures { λ r. ⌜ r ≡ noPost ⌝ }
-{
-    post_of([0; 32], Version::new(0, 0, 0))
 }

@@ -2,7 +2,7 @@
 ghost use mathlib.Core.Path.{_≡_};
 ghost use Rattle.layout.specs.declared.columns.Family.the-variants as family;
 ghost use Rattle.rows.specs.Inner.{Within};
-ghost use Rattle.rows.specs.Rows.{preOf, noPre};
+ghost use Rattle.rows.specs.Rows.{preOf};
 use super::float::float_of;
 use super::parts::Position;
 use super::parts::TriggersPhysical;
@@ -55,11 +55,4 @@ pub fn pre_of(raw: [u32; 32], version: Version) -> Pre
         raw_analog_cstick_x: signed8(raw[17]),
         raw_analog_cstick_y: signed8(raw[18]),
     }
-}
-
-// The row that stands for none: all zero.
-pub fn no_pre() -> Pre
-    ensures { λ r. ⌜ r ≡ noPre ⌝ }
-{
-    pre_of([0; 32], Version::new(0, 0, 0))
 }

@@ -3,7 +3,6 @@ ghost use mathlib.Core.Path.{_≡_};
 ghost use Rattle.layout.specs.declared.columns.Family.the-variants as family;
 ghost use Rattle.rows.specs.Inner.{Within};
 ghost use Rattle.rows.specs.Rows.{frameStartOf, frameEndOf, fodPlatformOf, dreamlandWhispyOf, stadiumTransformationOf};
-ghost use Rattle.rows.specs.Rows.{noFrameStart, noFrameEnd, noFodPlatform, noDreamlandWhispy, noStadiumTransformation};
 use super::float::float_of;
 use format::signed::signed32;
 use format::version::Version;
@@ -100,39 +99,4 @@ pub fn stadium_transformation_of(raw: [u32; 32], version: Version) -> StadiumTra
         event: raw[0] as u16,
         type_id: raw[1] as u16,
     }
-}
-
-// The row that stands for none: all zero.
-pub fn no_frame_start() -> FrameStart
-    ensures { λ r. ⌜ r ≡ noFrameStart ⌝ }
-{
-    frame_start_of([0; 32], Version::new(0, 0, 0))
-}
-
-// The row that stands for none: all zero.
-pub fn no_frame_end() -> FrameEnd
-    ensures { λ r. ⌜ r ≡ noFrameEnd ⌝ }
-{
-    frame_end_of([0; 32], Version::new(0, 0, 0))
-}
-
-// The row that stands for none: all zero.
-pub fn no_fod_platform() -> FodPlatform
-    ensures { λ r. ⌜ r ≡ noFodPlatform ⌝ }
-{
-    fod_platform_of([0; 32], Version::new(0, 0, 0))
-}
-
-// The row that stands for none: all zero.
-pub fn no_dreamland_whispy() -> DreamlandWhispy
-    ensures { λ r. ⌜ r ≡ noDreamlandWhispy ⌝ }
-{
-    dreamland_whispy_of([0; 32], Version::new(0, 0, 0))
-}
-
-// The row that stands for none: all zero.
-pub fn no_stadium_transformation() -> StadiumTransformation
-    ensures { λ r. ⌜ r ≡ noStadiumTransformation ⌝ }
-{
-    stadium_transformation_of([0; 32], Version::new(0, 0, 0))
 }

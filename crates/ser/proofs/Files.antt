@@ -1,4 +1,4 @@
--- The file of a game: its two parts, and the length field.
+-- The file of a game: its parts, and the length field.
 -- Assumes nothing.
 use mathlib.Core.Path.{_≡_, refl, sym, ap, ap₂, _∙_}
 use mathlib.Core.Bool.{Bool, true, false, cond}
@@ -76,8 +76,14 @@ module _ (g : Game) (s : Stores) where
       (length-append (eventsBytes (framesEvents (g .frames) (s .lent))) _
       ∙ ap₂ _+_ (length-frames (g .frames) (s .lent) f) (length-ends (g .frames .version) (g .end) (g .«double_end»)))))
 
-  -- the file is its two parts, with that length between them
-  pub file-parts : file g s ≡ frontBytes g (s .template) (length (tableBytes (entries g s) ++ eventsBytes (events g s))) ++ restBytes g (s .lent) (s .codes) (s .metadata)
+  -- what stands before the start block, the block, and what stands after it
+  abbrev pub inParts : ℕ → List ℕ
+  inParts raw =
+      frontBytes (g .frames .version) (g .«codes_given») (g .«actual_size») (length (s .template)) raw
+      ++ (startBlock (g .frames .version) (g .start) (s .template) ++ restBytes g (s .lent) (s .codes) (s .metadata))
+
+  -- the file is these parts, with that length
+  pub file-parts : file g s ≡ inParts (length (tableBytes (entries g s) ++ eventsBytes (events g s)))
   unfolding file fileOf frontBytes restBytes
   file-parts =
       let tail = tailOf (yes (g .«metadata_given»)) (s .metadata) in

@@ -1,17 +1,16 @@
--- The two parts of a file, piece by piece.
+-- What stands before and after the start block, piece by piece.
 -- Assumes nothing.
 use mathlib.Core.Path.{_≡_, ap₂}
 use mathlib.Core.Bool.{Bool}
 use mathlib.Core.List.{List, [], _∷_, _++_}
 use Prim.Native.Nat.{ℕ}
-use lib.ListN.{length}
 use Rattle.wire.specs.Wire.{be}
 use Rattle.format.specs.Event.{codeOf, signature}
 use Rattle.format.specs.File.{tableBytes, eventsBytes}
 use Rattle.format.specs.Mark.{yes}
 use Rattle.format.specs.declared.event.Event.the-variants.{GameStart}
+use Rattle.format.specs.declared.version.Version.{Version}
 use Rattle.layout.specs.Payloads.{entriesOf}
-use Rattle.start.specs.Block.{startBlock}
 use Rattle.game.specs.declared.Game.{Game}
 use Rattle.game.specs.Stores.{Lent}
 use Rattle.codes.specs.Blocks.{codeEvents}
@@ -21,19 +20,11 @@ use Rattle.events.specs.Events.{framesEvents}
 use Rattle.ser.specs.Inner.{frontBytes, restBytes}
 
 -- with the mark and the code as the code found them
-pub front-parts : (g : Game) (template : List ℕ) (raw : ℕ) (b : Bool) (k : ℕ) → yes (g .«codes_given») ≡ b → codeOf GameStart ≡ k
-    → frontBytes g template raw
-    ≡ signature
-    ++ (be 4 raw
-    ++ (tableBytes (entriesOf (g .frames .version) (length template) b (g .«actual_size»)) ++ ((k ∷ []) ++ startBlock (g .frames .version) (g .start) template)))
+pub front-parts : (v : Version) (codesGiven actual block raw : ℕ) (b : Bool) (k : ℕ) → yes codesGiven ≡ b → codeOf GameStart ≡ k
+    → frontBytes v codesGiven actual block raw ≡ signature ++ (be 4 raw ++ (tableBytes (entriesOf v block b actual) ++ (k ∷ [])))
 unfolding frontBytes
-front-parts g template raw b k e f =
-    ap₂
-    (λ (x : Bool) (y : ℕ).
-    signature
-    ++ (be 4 raw
-    ++ (tableBytes (entriesOf (g .frames .version) (length template) x (g .«actual_size»)) ++ ((y ∷ []) ++ startBlock (g .frames .version) (g .start) template))))
-    e f
+front-parts v codesGiven actual block raw b k e f =
+    ap₂ (λ (x : Bool) (y : ℕ). signature ++ (be 4 raw ++ (tableBytes (entriesOf v block x actual) ++ (y ∷ [])))) e f
 
 pub rest-parts : (g : Game) (lent : Lent) (codes metadata : List ℕ) (b m : Bool) → yes (g .«codes_given») ≡ b → yes (g .«metadata_given») ≡ m
     → restBytes g lent codes metadata

@@ -2,7 +2,7 @@
 -- Assumes nothing.
 use mathlib.Core.Path.{_≡_, refl, sym, ap, ap₂, _∙_}
 use mathlib.Core.Bool.{Bool, true, false, cond}
-use mathlib.Core.List.{List, _++_}
+use mathlib.Core.List.{List}
 use Prim.Native.Nat.{ℕ, _+_, _*_, _≤_, _<_}
 use native.Mathlib.Nat.{mul-le-mul}
 use native.Mathlib.Omega.{arith}
@@ -16,8 +16,7 @@ use Rattle.game.specs.declared.Game.{Game}
 use Rattle.game.specs.Stores.{Stores}
 use Rattle.ser.specs.Write.{givenBytes, file}
 use Rattle.ser.specs.Length.{rawLength}
-use Rattle.ser.specs.Inner.{frontBytes, restBytes}
-use Rattle.ser.proofs.Files.{framed, length-raw, file-parts}
+use Rattle.ser.proofs.Files.{framed, length-raw, inParts, file-parts}
 use Rattle.ser.proofs.Most.{raw-small}
 use Rattle.ser.proofs.Outcomes.{Passed, players-most, file-size}
 use Rattle.start.proofs.Refusals.{block-fits}
@@ -45,11 +44,8 @@ module _ {g : Game} {s : Stores} (p : Passed g s) where
         let small = raw-small g (s .lent .presence) (length (s .template)) (p .frames .modest) (omega arith) (block-fits (g .frames .version) (length (s .template)) (p .block) .1) few-blocks in
         omega arith
 
-    pub file-as : file g s ≡ frontBytes g (s .template) raw ++ restBytes g (s .lent) (s .codes) (s .metadata)
-    file-as =
-        file-parts g s
-        ∙ ap (λ (n : ℕ). frontBytes g (s .template) n ++ restBytes g (s .lent) (s .codes) (s .metadata)) (length-raw g s whole (framed (p .frames)) ∙ sym e)
+    pub file-as : file g s ≡ inParts g s raw
+    file-as = file-parts g s ∙ ap (inParts g s) (length-raw g s whole (framed (p .frames)) ∙ sym e)
 
-    pub room : {out : List ℕ} (total : ℕ) → length (file g s) ≡ total → total ≤ length out
-        → Room out 0 (frontBytes g (s .template) raw ++ restBytes g (s .lent) (s .codes) (s .metadata))
+    pub room : {out : List ℕ} (total : ℕ) → length (file g s) ≡ total → total ≤ length out → Room out 0 (inParts g s raw)
     room total q h = record { fits = omega (arith, ap length file-as) }

@@ -1,12 +1,10 @@
 // The file's parts, written one after the other.
 ghost use mathlib.Core.Path.{_≡_};
-ghost use mathlib.Core.Bool.{Bool, true, false};
+ghost use mathlib.Core.Bool.{Bool, true};
 ghost use mathlib.Core.List.{_++_};
-ghost use Prim.Native.Nat.{_*_, _≤_, _<_};
+ghost use Prim.Native.Nat.{_*_, _<_};
 ghost use lib.ListN.{length};
 ghost use Rattle.wire.specs.Wire.{Room, Wrote};
-ghost use Rattle.start.specs.Length.{lengthOf};
-ghost use Rattle.start.specs.Refusal.{badStart};
 ghost use Rattle.format.specs.Mark.{yes};
 ghost use Rattle.players.specs.Inner.{Slotted};
 ghost use Rattle.game.specs.Stores.{cells, offsets, lent};
@@ -15,32 +13,29 @@ ghost use Rattle.events.specs.Inner.{Framed};
 ghost use Rattle.ser.specs.Inner.{frontBytes, restBytes};
 use super::judge::is_given;
 use format::event::Event;
+use format::version::Version;
 use game::Game;
 use layout::payloads::put_table;
 use players::slots::Slots;
 
-// The signature, the length, the payload table and GameStart.
-pub fn put_front(out: &mut [u8], at: usize, g: Game, template: &[u8], raw: u32) -> usize
-    requires { ⌜ (lengthOf (g .frames .version) ≤ length (now template))
-        × (length (now template) < 65536)
-        × (badStart (g .frames .version) (g .start) ≡ false)
-        × Room (now out) at (frontBytes g (now template) raw) ⌝ }
-    ensures { λ r. ⌜ Wrote (now (out .entry)) (now (out .exit)) at r (frontBytes g (now (template .entry)) raw) ⌝ }
+// The signature, the length, the payload table and GameStart's code. The start itself is written by the caller, from where
+// the game lies: a start by value here would be one more copy of it.
+pub fn put_front(
+    out: &mut [u8],
+    at: usize,
+    v: Version,
+    codes_given: u8,
+    actual: u32,
+    block: usize,
+    raw: u32,
+) -> usize
+    requires { ⌜ (block < 65536) × Room (now out) at (frontBytes v «codes_given» actual block raw) ⌝ }
+    ensures { λ r. ⌜ Wrote (now (out .entry)) (now (out .exit)) at r (frontBytes v «codes_given» actual block raw) ⌝ }
 {
-    let v = g.frames.version;
-    let begin = g.start;
     let mut p = format::event::put_signature(out, at);
     p = wire::put_u32(out, p, raw);
-    p = put_table(
-        out,
-        p,
-        v,
-        template.len(),
-        is_given(g.codes_given),
-        g.actual_size,
-    );
-    p = wire::put_u8(out, p, Event::GameStart.code());
-    start::block::put_block(out, p, template, v, begin)
+    p = put_table(out, p, v, block, is_given(codes_given), actual);
+    wire::put_u8(out, p, Event::GameStart.code())
 }
 
 // The code blocks, the frames, the ends and the tail.

@@ -13,6 +13,7 @@ use super::written::Written;
 use format::refusal;
 use game::Game;
 use players::slots::slots_of;
+use start::block::put_block;
 
 // The file stands at the output's start, and its length is answered; what follows it in the output stays.
 pub fn write(
@@ -76,10 +77,19 @@ pub fn write(
     if out.len() < total {
         return Written::Refused(refusal::SHORT_OUTPUT);
     }
-    let p = put_front(out, 0, g, template, raw as u32);
+    let p = put_front(
+        out,
+        0,
+        f.version,
+        g.codes_given,
+        g.actual_size,
+        template.len(),
+        raw as u32,
+    );
+    let q = put_block(out, p, template, f.version, g.start);
     put_rest(
         out,
-        p,
+        q,
         g,
         s,
         ids,

@@ -89,8 +89,8 @@ fn put_fields(block: &mut [u8], v: Version, s: Start)
     requires { ⌜ (lengthOf v ≤ length (now block)) × (badStart v s ≡ false) ⌝ }
     ensures { λ r. ⌜ Patched (now (block .entry)) (now (block .exit)) (fields v s) ⌝ }
 {
-    let seats = s.seats;
     put_game(block, v, s);
+    let seats = s.seats;
     put_seats(block, v, seats);
     put_modes(block, v, s);
     put_match(block, v, s.match_info);

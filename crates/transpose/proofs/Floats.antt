@@ -24,7 +24,8 @@ use Rattle.rows.proofs.Exact.{Exact, preFloats, preColumns, pre-exact, postFloa
 use Rattle.transpose.specs.Records.{cellsAt}
 use Rattle.transpose.specs.Inner.{Reachable}
 use Rattle.transpose.specs.Answers.{preRow, postRow, itemRow}
-use Rattle.transpose.proofs.Judged.{reachable, given-row}
+use Rattle.transpose.proofs.Judged.{reachable}
+use Rattle.transpose.proofs.Shown.{given-row}
 
 -- a lent cell: that of a row of a block in the k-th column, 0 where the version lacks the column
 abbrev pub lentCell : Frames → Family → List ℕ → ℕ → ℕ → ℕ → ℕ

@@ -1,13 +1,14 @@
 -- What an answer says: a refusal's number, or that the place is in stores that were judged.
 -- Assumes nothing.
-use mathlib.Core.Path.{_≡_, refl, sym, ap₂, _∙_}
-use mathlib.Core.Bool.{true, false}
+use mathlib.Core.Path.{_≡_, sym, _∙_}
+use mathlib.Core.Bool.{false}
 use mathlib.Core.List.{List, [], _∷_}
 use Prim.Native.Nat.{ℕ, zero, suc, _<_}
+use native.Mathlib.Omega.{arith}
 use borrow.Author.Tests.{leb-false}
 use lib.Dec.{leb, lit<}
 use Rattle.format.specs.Refusal.{Refusal, refuse, lowest}
-use Rattle.format.proofs.Refusals.{skip, here, none, passed, lowest-before, lowest-after, lowest-first}
+use Rattle.format.proofs.Refusals.{passed, lowest-before, lowest-after, lowest-first}
 use Rattle.format.proofs.Tests.{or-none}
 use Rattle.layout.specs.declared.columns.Family.{Family}
 use Rattle.layout.specs.declared.columns.Family.the-variants.{Pre, Post, FrameStart, FrameEnd}
@@ -18,7 +19,7 @@ use Rattle.game.specs.Stores.{Lent, cellsOf}
 use Rattle.game.specs.declared.frames.Frames.{Frames}
 use Rattle.frames.proofs.Accepted.{numbered, accepted}
 use Rattle.transpose.specs.Judge.{outside, rowRefusal}
-use Rattle.transpose.specs.Inner.{Reachable, Showable}
+use Rattle.transpose.specs.Inner.{Reachable, Showable, placeRefusal}
 use Rattle.transpose.specs.Answers.{unlessRefused}
 
 module _ (f : Frames) (s : Lent) (family : Family) (block row : ℕ) where
@@ -27,7 +28,7 @@ module _ (f : Frames) (s : Lent) (family : Family) (block row : ℕ) where
   last = refuse 13 (outside f family block row) ∷ []
 
   -- the first judge refuses
-  pub judged-refused : (n : ℕ) → n ≡ lowest (refusals f s 0 0) → (n ≡ 0 → ⊥) → n ≡ rowRefusal f s family block row
+  judged-refused : (n : ℕ) → n ≡ lowest (refusals f s 0 0) → (n ≡ 0 → ⊥) → n ≡ rowRefusal f s family block row
   unfolding rowRefusal
   judged-refused n e ne = e ∙ sym (lowest-before (refusals f s 0 0) last (λ z. ne (e ∙ z)))
 
@@ -36,11 +37,10 @@ module _ (f : Frames) (s : Lent) (family : Family) (block row : ℕ) where
   unfolding rowRefusal
   place-decides e = lowest-after (refusals f s 0 0) last (numbered f s 0 0) e
 
-  pub place-refused : lowest (refusals f s 0 0) ≡ 0 → outside f family block row ≡ true → 13 ≡ rowRefusal f s family block row
-  place-refused e t = here _ _ _ t ∙ sym (place-decides e)
-
-  pub not-refused : lowest (refusals f s 0 0) ≡ 0 → outside f family block row ≡ false → 0 ≡ rowRefusal f s family block row
-  not-refused e t = skip _ _ _ _ t none ∙ sym (place-decides e)
+  pub row-judged : (n : ℕ) → n ≡ lowest (refusals f s 0 0) → placeRefusal n f family block row ≡ rowRefusal f s family block row
+  unfolding placeRefusal unlessRefused
+  row-judged zero e = sym (place-decides (sym e))
+  row-judged (suc n) e = judged-refused (suc n) e (λ z. absurd (omega (arith, z)))
 
   module _ (e : rowRefusal f s family block row ≡ 0) where
     first-none : lowest (refusals f s 0 0) ≡ 0
@@ -79,20 +79,3 @@ showable f s index e =
       whispys = a .whispys;
       stadiums = a .stadiums;
     }
-
--- an answer where something is refused, and where nothing is
-given-none : {A : Type 0} {n : ℕ} (m : ℕ) (row none : A) → n ≡ m → (n ≡ 0 → ⊥) → none ≡ unlessRefused m row none
-unfolding unlessRefused
-given-none zero row none e ne = absurd (ne e)
-given-none (suc m) row none e ne = refl
-
-pub given-row : {A : Type 0} (m : ℕ) (row none : A) → m ≡ 0 → row ≡ unlessRefused m row none
-unfolding unlessRefused
-given-row m row none e = rw e
-
-module _ {A R : Type 0} (answer : ℕ → A → R) where
-  pub answered-none : {n m : ℕ} {q none : A} (row : A) → n ≡ m → (n ≡ 0 → ⊥) → q ≡ none → answer n q ≡ answer m (unlessRefused m row none)
-  answered-none {m = m} {none = none} row e ne h = ap₂ answer e (h ∙ given-none m row none e ne)
-
-  pub answered-row : {m : ℕ} {q row : A} (none : A) → m ≡ 0 → q ≡ row → answer 0 q ≡ answer m (unlessRefused m row none)
-  answered-row {m} {row = row} none e h = ap₂ answer (sym e) (h ∙ given-row m row none e)

@@ -1,4 +1,5 @@
 pub mod Judged
+pub mod Shown
 pub mod Reach
 pub mod Slotting
 pub mod Only

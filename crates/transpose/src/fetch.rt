@@ -1,9 +1,12 @@
-// The rows of single records, out of stores that were judged.
+// The rows of single records, out of stores that were judged: zeros where they are refused (n is not 0), so that an answer is made in one place.
 ghost use mathlib.Core.Path.{_≡_};
 ghost use Rattle.layout.specs.declared.columns.Family.the-variants as family;
 ghost use Rattle.rows.specs.Rows.{preOf, postOf, itemOf, frameStartOf, frameEndOf, fodPlatformOf, dreamlandWhispyOf, stadiumTransformationOf};
+ghost use Rattle.rows.specs.Rows.{noVersion, noPre, noPost, noItem, noFrameStart, noFrameEnd, noFodPlatform, noDreamlandWhispy, noStadiumTransformation};
+ghost use Rattle.transpose.specs.Answers.{unlessRefused};
 ghost use Rattle.transpose.specs.Records.{cellsAt};
 ghost use Rattle.transpose.specs.Inner.{Reachable, Fetched};
+use format::version::Version;
 use game::frames::Frames;
 use layout::columns::Family;
 use rows::cells::row_cells;
@@ -24,76 +27,108 @@ use rows::small::frame_end_of;
 use rows::small::frame_start_of;
 use rows::small::stadium_transformation_of;
 
-// The cells of a family's record.
-fn record_at(f: Frames, family: Family, cells: &[u32], block: usize, row: usize) -> [u32; 32]
-    requires { ⌜ Reachable f family (now cells) block row ⌝ }
-    ensures { λ r. ⌜ Fetched f family (now (cells .entry)) block row r ⌝ }
+pub fn version_shown(version: Version, n: u8) -> Version
+    ensures { λ r. ⌜ r ≡ unlessRefused n version noVersion ⌝ }
 {
+    if n != 0 {
+        return Version::new(0, 0, 0);
+    }
+    version
+}
+
+// The cells of a family's record.
+fn record_at(f: Frames, family: Family, cells: &[u32], block: usize, row: usize, n: u8) -> [u32; 32]
+    requires { ⌜ (n ≡ 0 → Reachable f family (now cells) block row) ⌝ }
+    ensures { λ r. ⌜ Fetched f family (now (cells .entry)) block row n r ⌝ }
+{
+    if n != 0 {
+        return [0; 32];
+    }
     let rows = f.rows(family);
     row_cells(family, f.version, cells, rows, block, row)
 }
 
-pub fn pre_at(f: Frames, cells: &[u32], slot: usize, index: usize) -> Pre
-    requires { ⌜ Reachable f family.Pre (now cells) slot index ⌝ }
-    ensures { λ r. ⌜ r ≡ preOf (cellsAt f family.Pre (now (cells .entry)) slot index) (f .version) ⌝ }
+pub fn pre_at(f: Frames, cells: &[u32], slot: usize, index: usize, n: u8) -> Pre
+    requires { ⌜ (n ≡ 0 → Reachable f family.Pre (now cells) slot index) ⌝ }
+    ensures { λ r. ⌜ r ≡ unlessRefused n (preOf (cellsAt f family.Pre (now (cells .entry)) slot index) (f .version)) noPre ⌝ }
 {
-    pre_of(record_at(f, Family::Pre, cells, slot, index), f.version)
+    pre_of(
+        record_at(f, Family::Pre, cells, slot, index, n),
+        version_shown(f.version, n),
+    )
 }
 
-pub fn post_at(f: Frames, cells: &[u32], slot: usize, index: usize) -> Post
-    requires { ⌜ Reachable f family.Post (now cells) slot index ⌝ }
-    ensures { λ r. ⌜ r ≡ postOf (cellsAt f family.Post (now (cells .entry)) slot index) (f .version) ⌝ }
+pub fn post_at(f: Frames, cells: &[u32], slot: usize, index: usize, n: u8) -> Post
+    requires { ⌜ (n ≡ 0 → Reachable f family.Post (now cells) slot index) ⌝ }
+    ensures { λ r. ⌜ r ≡ unlessRefused n (postOf (cellsAt f family.Post (now (cells .entry)) slot index) (f .version)) noPost ⌝ }
 {
-    post_of(record_at(f, Family::Post, cells, slot, index), f.version)
+    post_of(
+        record_at(f, Family::Post, cells, slot, index, n),
+        version_shown(f.version, n),
+    )
 }
 
-pub fn frame_start_at(f: Frames, cells: &[u32], index: usize) -> FrameStart
-    requires { ⌜ Reachable f family.FrameStart (now cells) 0 index ⌝ }
-    ensures { λ r. ⌜ r ≡ frameStartOf (cellsAt f family.FrameStart (now (cells .entry)) 0 index) (f .version) ⌝ }
+pub fn frame_start_at(f: Frames, cells: &[u32], index: usize, n: u8) -> FrameStart
+    requires { ⌜ (n ≡ 0 → Reachable f family.FrameStart (now cells) 0 index) ⌝ }
+    ensures { λ r. ⌜ r ≡ unlessRefused n (frameStartOf (cellsAt f family.FrameStart (now (cells .entry)) 0 index) (f .version)) noFrameStart ⌝ }
 {
-    frame_start_of(record_at(f, Family::FrameStart, cells, 0, index), f.version)
+    frame_start_of(
+        record_at(f, Family::FrameStart, cells, 0, index, n),
+        version_shown(f.version, n),
+    )
 }
 
-pub fn frame_end_at(f: Frames, cells: &[u32], index: usize) -> FrameEnd
-    requires { ⌜ Reachable f family.FrameEnd (now cells) 0 index ⌝ }
-    ensures { λ r. ⌜ r ≡ frameEndOf (cellsAt f family.FrameEnd (now (cells .entry)) 0 index) (f .version) ⌝ }
+pub fn frame_end_at(f: Frames, cells: &[u32], index: usize, n: u8) -> FrameEnd
+    requires { ⌜ (n ≡ 0 → Reachable f family.FrameEnd (now cells) 0 index) ⌝ }
+    ensures { λ r. ⌜ r ≡ unlessRefused n (frameEndOf (cellsAt f family.FrameEnd (now (cells .entry)) 0 index) (f .version)) noFrameEnd ⌝ }
 {
-    frame_end_of(record_at(f, Family::FrameEnd, cells, 0, index), f.version)
+    frame_end_of(
+        record_at(f, Family::FrameEnd, cells, 0, index, n),
+        version_shown(f.version, n),
+    )
 }
 
-pub fn item_at(f: Frames, cells: &[u32], index: usize) -> Item
-    requires { ⌜ Reachable f family.Item (now cells) 0 index ⌝ }
-    ensures { λ r. ⌜ r ≡ itemOf (cellsAt f family.Item (now (cells .entry)) 0 index) (f .version) ⌝ }
+pub fn item_at(f: Frames, cells: &[u32], index: usize, n: u8) -> Item
+    requires { ⌜ (n ≡ 0 → Reachable f family.Item (now cells) 0 index) ⌝ }
+    ensures { λ r. ⌜ r ≡ unlessRefused n (itemOf (cellsAt f family.Item (now (cells .entry)) 0 index) (f .version)) noItem ⌝ }
 {
-    item_of(record_at(f, Family::Item, cells, 0, index), f.version)
+    item_of(
+        record_at(f, Family::Item, cells, 0, index, n),
+        version_shown(f.version, n),
+    )
 }
 
-pub fn fod_platform_at(f: Frames, cells: &[u32], index: usize) -> FodPlatform
-    requires { ⌜ Reachable f family.FodPlatform (now cells) 0 index ⌝ }
-    ensures { λ r. ⌜ r ≡ fodPlatformOf (cellsAt f family.FodPlatform (now (cells .entry)) 0 index) (f .version) ⌝ }
+pub fn fod_platform_at(f: Frames, cells: &[u32], index: usize, n: u8) -> FodPlatform
+    requires { ⌜ (n ≡ 0 → Reachable f family.FodPlatform (now cells) 0 index) ⌝ }
+    ensures { λ r. ⌜ r ≡ unlessRefused n (fodPlatformOf (cellsAt f family.FodPlatform (now (cells .entry)) 0 index) (f .version)) noFodPlatform ⌝ }
 {
     fod_platform_of(
-        record_at(f, Family::FodPlatform, cells, 0, index),
-        f.version,
+        record_at(f, Family::FodPlatform, cells, 0, index, n),
+        version_shown(f.version, n),
     )
 }
 
-pub fn dreamland_whispy_at(f: Frames, cells: &[u32], index: usize) -> DreamlandWhispy
-    requires { ⌜ Reachable f family.DreamlandWhispy (now cells) 0 index ⌝ }
-    ensures { λ r. ⌜ r ≡ dreamlandWhispyOf (cellsAt f family.DreamlandWhispy (now (cells .entry)) 0 index) (f .version) ⌝ }
+pub fn dreamland_whispy_at(f: Frames, cells: &[u32], index: usize, n: u8) -> DreamlandWhispy
+    requires { ⌜ (n ≡ 0 → Reachable f family.DreamlandWhispy (now cells) 0 index) ⌝ }
+    ensures { λ r. ⌜ r ≡ unlessRefused n (dreamlandWhispyOf (cellsAt f family.DreamlandWhispy (now (cells .entry)) 0 index) (f .version)) noDreamlandWhispy ⌝ }
 {
     dreamland_whispy_of(
-        record_at(f, Family::DreamlandWhispy, cells, 0, index),
-        f.version,
+        record_at(f, Family::DreamlandWhispy, cells, 0, index, n),
+        version_shown(f.version, n),
     )
 }
 
-pub fn stadium_transformation_at(f: Frames, cells: &[u32], index: usize) -> StadiumTransformation
-    requires { ⌜ Reachable f family.StadiumTransformation (now cells) 0 index ⌝ }
-    ensures { λ r. ⌜ r ≡ stadiumTransformationOf (cellsAt f family.StadiumTransformation (now (cells .entry)) 0 index) (f .version) ⌝ }
+pub fn stadium_transformation_at(
+    f: Frames,
+    cells: &[u32],
+    index: usize,
+    n: u8,
+) -> StadiumTransformation
+    requires { ⌜ (n ≡ 0 → Reachable f family.StadiumTransformation (now cells) 0 index) ⌝ }
+    ensures { λ r. ⌜ r ≡ unlessRefused n (stadiumTransformationOf (cellsAt f family.StadiumTransformation (now (cells .entry)) 0 index) (f .version)) noStadiumTransformation ⌝ }
 {
     stadium_transformation_of(
-        record_at(f, Family::StadiumTransformation, cells, 0, index),
-        f.version,
+        record_at(f, Family::StadiumTransformation, cells, 0, index, n),
+        version_shown(f.version, n),
     )
 }

@@ -1,26 +1,29 @@
 // The row of a whole frame.
 ghost use mathlib.Core.Path.{_≡_};
 ghost use Prim.Native.Nat.{_<_};
+ghost use mir.Syntax.{w32};
+ghost use mir.Val.{toZ};
+ghost use lib.IntN.{pos};
+ghost use lib.ListN.{length, getD};
 ghost use Rattle.frames.specs.Inner.{Placed};
 ghost use Rattle.game.specs.Stores.{cells, offsets, lent};
 ghost use Rattle.transpose.specs.Frame.{noRange, rangeAt, noFrame, frameOf};
 ghost use Rattle.transpose.specs.Inner.{Showable};
-ghost use Rattle.transpose.specs.Answers.{frameRow};
+ghost use Rattle.transpose.specs.Answers.{unlessRefused, frameRow};
 use super::fetch::frame_end_at;
 use super::fetch::frame_start_at;
-use super::judge::row_refused;
-use super::ports::no_port;
+use super::fetch::version_shown;
+use super::judge::place_refused;
 use super::ports::ports_at;
 use format::signed::signed32;
 use format::version::Version;
+use frames::judge::judge;
 use game::frames::Frames;
 use layout::columns::Family;
 use rows::post::Post;
 use rows::pre::Pre;
 use rows::small::FrameEnd;
 use rows::small::FrameStart;
-use rows::small::no_frame_end;
-use rows::small::no_frame_start;
 
 // What a player does in a frame.
 #[repr(C)]
@@ -87,28 +90,36 @@ fn range_at(f: Frames, family: Family, offsets: &[u32], index: usize) -> Range
     no_range()
 }
 
-fn no_frame() -> Frame
-    ensures { λ r. ⌜ r ≡ noFrame ⌝ }
+fn range_shown(f: Frames, family: Family, offsets: &[u32], index: usize, n: u8) -> Range
+    requires { ⌜ (n ≡ 0 → Placed f family (now offsets) × (index < f .counts .frames)) ⌝ }
+    ensures { λ r. ⌜ r ≡ unlessRefused n (rangeAt f family (now (offsets .entry)) index) noRange ⌝ }
 {
-    let none = no_port();
-    let ports = [none, none, none, none];
-    let start = no_frame_start();
-    let end = no_frame_end();
-    let version = Version::new(0, 0, 0);
-    Frame {
-        version,
-        id: 0,
-        port_count: 0,
-        ports,
-        start,
-        end,
-        items: no_range(),
-        fod_platforms: no_range(),
-        dreamland_whispys: no_range(),
-        stadium_transformations: no_range(),
+    if n != 0 {
+        return no_range();
     }
+    range_at(f, family, offsets, index)
 }
 
+fn id_shown(ids: &[u32], index: usize, n: u8) -> i32
+    requires { ⌜ (n ≡ 0 → index < length (now ids)) ⌝ }
+    ensures { λ r. ⌜ r ≡ unlessRefused n (toZ w32 (getD (now (ids .entry)) index 0)) (pos 0) ⌝ }
+{
+    if n != 0 {
+        return 0;
+    }
+    signed32(ids[index])
+}
+
+fn count_shown(count: usize, n: u8) -> usize
+    ensures { λ r. ⌜ r ≡ unlessRefused n count 0 ⌝ }
+{
+    if n != 0 {
+        return 0;
+    }
+    count
+}
+
+// The frame's row, or zeros where it is refused (n is not 0): one literal for both, since a second would take its room on the stack.
 fn frame_at(
     f: Frames,
     ids: &[u32],
@@ -121,30 +132,33 @@ fn frame_at(
     whispy_offsets: &[u32],
     stadium_offsets: &[u32],
     index: usize,
+    n: u8,
 ) -> Frame
-    requires { ⌜ Showable f (now ids) (now starts) (now pres) (now posts) (now ends)
-        (offsets (now «item_offsets») (now «fod_offsets») (now «whispy_offsets») (now «stadium_offsets»)) index ⌝ }
-    ensures { λ r. ⌜ r ≡ frameOf f (now (ids .entry)) (now (starts .entry)) (now (pres .entry)) (now (posts .entry)) (now (ends .entry))
-        (offsets (now («item_offsets» .entry)) (now («fod_offsets» .entry)) (now («whispy_offsets» .entry)) (now («stadium_offsets» .entry))) index ⌝ }
+    requires { ⌜ (n ≡ 0 → Showable f (now ids) (now starts) (now pres) (now posts) (now ends)
+        (offsets (now «item_offsets») (now «fod_offsets») (now «whispy_offsets») (now «stadium_offsets»)) index) ⌝ }
+    ensures { λ r. ⌜ r ≡ unlessRefused n (frameOf f (now (ids .entry)) (now (starts .entry)) (now (pres .entry)) (now (posts .entry)) (now (ends .entry))
+        (offsets (now («item_offsets» .entry)) (now («fod_offsets» .entry)) (now («whispy_offsets» .entry)) (now («stadium_offsets» .entry))) index) noFrame ⌝ }
 {
-    let id = signed32(ids[index]);
-    let ports = ports_at(f, pres, posts, index);
-    let start = frame_start_at(f, starts, index);
-    let end = frame_end_at(f, ends, index);
-    let items = range_at(f, Family::Item, item_offsets, index);
-    let fod_platforms = range_at(f, Family::FodPlatform, fod_offsets, index);
-    let dreamland_whispys = range_at(f, Family::DreamlandWhispy, whispy_offsets, index);
-    let stadium_transformations = range_at(
+    let id = id_shown(ids, index, n);
+    let ports = ports_at(f, pres, posts, index, n);
+    let start = frame_start_at(f, starts, index, n);
+    let end = frame_end_at(f, ends, index, n);
+    let items = range_shown(f, Family::Item, item_offsets, index, n);
+    let fod_platforms = range_shown(f, Family::FodPlatform, fod_offsets, index, n);
+    let dreamland_whispys = range_shown(f, Family::DreamlandWhispy, whispy_offsets, index, n);
+    let stadium_transformations = range_shown(
         f,
         Family::StadiumTransformation,
         stadium_offsets,
         index,
+        n,
     );
-    let version = f.version;
+    let version = version_shown(f.version, n);
+    let port_count = count_shown(f.port_count, n);
     Frame {
         version,
         id,
-        port_count: f.port_count,
+        port_count,
         ports,
         start,
         end,
@@ -179,7 +193,7 @@ pub fn frame_row(
         (offsets (now («item_offsets» .entry)) (now («fod_offsets» .entry)) (now («whispy_offsets» .entry)) (now («stadium_offsets» .entry)))
         (now (presence .entry))) index ⌝ }
 {
-    let n = row_refused(
+    let judged = judge(
         f,
         ids,
         starts,
@@ -195,14 +209,10 @@ pub fn frame_row(
         whispy_offsets,
         stadium_offsets,
         presence,
-        Family::FrameStart,
         0,
-        index,
+        0,
     );
-    if n != 0 {
-        let row = no_frame();
-        return FrameRow { refused: n, row };
-    }
+    let n = place_refused(judged, f, Family::FrameStart, 0, index);
     let row = frame_at(
         f,
         ids,
@@ -215,6 +225,7 @@ pub fn frame_row(
         whispy_offsets,
         stadium_offsets,
         index,
+        n,
     );
-    FrameRow { refused: 0, row }
+    FrameRow { refused: n, row }
 }

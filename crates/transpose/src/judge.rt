@@ -1,7 +1,7 @@
-// Refusals 1 to 7 and 13.
+// Refusal 13: no such place.
 ghost use mathlib.Core.Path.{_≡_};
-ghost use Rattle.game.specs.Stores.{cells, offsets, lent};
-ghost use Rattle.transpose.specs.Judge.{outside, rowRefusal};
+ghost use Rattle.transpose.specs.Judge.{outside};
+ghost use Rattle.transpose.specs.Inner.{placeRefusal};
 use format::refusal::OUT_OF_RANGE;
 use game::frames::Frames;
 use layout::columns::Family;
@@ -14,51 +14,10 @@ fn is_outside(f: Frames, family: Family, block: usize, row: usize) -> bool
     (blocks(f, family) <= block) | (f.rows(family) <= row)
 }
 
-pub fn row_refused(
-    f: Frames,
-    ids: &[u32],
-    starts: &[u32],
-    pres: &[u32],
-    posts: &[u32],
-    ends: &[u32],
-    items: &[u32],
-    fods: &[u32],
-    whispys: &[u32],
-    stadiums: &[u32],
-    item_offsets: &[u32],
-    fod_offsets: &[u32],
-    whispy_offsets: &[u32],
-    stadium_offsets: &[u32],
-    presence: &[u8],
-    family: Family,
-    block: usize,
-    row: usize,
-) -> u8
-    ensures { λ r. ⌜ r ≡ rowRefusal f (lent
-        (cells (now (ids .entry)) (now (starts .entry)) (now (pres .entry)) (now (posts .entry)) (now (ends .entry))
-        (now (items .entry)) (now (fods .entry)) (now (whispys .entry)) (now (stadiums .entry)))
-        (offsets (now («item_offsets» .entry)) (now («fod_offsets» .entry)) (now («whispy_offsets» .entry)) (now («stadium_offsets» .entry)))
-        (now (presence .entry))) family block row ⌝ }
+// What the judge of the stores answered, or 13: beside the judge and not around it, where it would take room on the stack.
+pub fn place_refused(n: u8, f: Frames, family: Family, block: usize, row: usize) -> u8
+    ensures { λ r. ⌜ r ≡ placeRefusal n f family block row ⌝ }
 {
-    let n = frames::judge::judge(
-        f,
-        ids,
-        starts,
-        pres,
-        posts,
-        ends,
-        items,
-        fods,
-        whispys,
-        stadiums,
-        item_offsets,
-        fod_offsets,
-        whispy_offsets,
-        stadium_offsets,
-        presence,
-        0,
-        0,
-    );
     if n != 0 {
         return n;
     }

@@ -1,81 +1,101 @@
-// The players of a frame, by their port columns.
+// The players of a frame, by their port columns: none where the frame is refused (n is not 0).
 ghost use mathlib.Core.Path.{_≡_};
+ghost use Rattle.transpose.specs.Answers.{unlessRefused};
 ghost use Rattle.transpose.specs.Ports.{noData, dataAt, noPortData, portAt, portsAt};
-ghost use Rattle.transpose.specs.Inner.{Playing, Played};
+ghost use Rattle.transpose.specs.Inner.{Playing, Played, Seated, noSeat, noPorts};
 use super::fetch::post_at;
 use super::fetch::pre_at;
 use super::frame::Data;
 use super::frame::PortData;
 use game::frames::Frames;
 use players::slots::slots_before;
-use rows::post::no_post;
-use rows::pre::no_pre;
 
-fn no_data() -> Data
-    ensures { λ r. ⌜ r ≡ noData ⌝ }
-{
-    let pre = no_pre();
-    let post = no_post();
-    Data { pre, post }
+// Where a port column's players are: the leader's slot and the follower's, and for each 1 where there is none.
+pub struct Seat {
+    pub port: u8,
+    pub given: u8,
+    pub no_leader: u8,
+    pub no_follower: u8,
+    pub slot: usize,
+    pub second: usize,
 }
 
-fn data_at(f: Frames, pres: &[u32], posts: &[u32], slot: usize, index: usize) -> Data
-    requires { ⌜ Playing f (now pres) (now posts) slot index ⌝ }
-    ensures { λ r. ⌜ r ≡ dataAt f (now (pres .entry)) (now (posts .entry)) slot index ⌝ }
+fn no_seat() -> Seat
+    ensures { λ r. ⌜ r ≡ noSeat ⌝ }
 {
-    let pre = pre_at(f, pres, slot, index);
-    let post = post_at(f, posts, slot, index);
-    Data { pre, post }
-}
-
-pub fn no_port() -> PortData
-    ensures { λ r. ⌜ r ≡ noPortData ⌝ }
-{
-    let none = no_data();
-    PortData {
+    Seat {
         port: 0,
-        follower_given: 0,
-        leader: none,
-        follower: none,
+        given: 0,
+        no_leader: 1,
+        no_follower: 1,
+        slot: 0,
+        second: 0,
     }
 }
 
-// The k-th port column's players, or none.
-fn port_at(f: Frames, pres: &[u32], posts: &[u32], index: usize, k: usize) -> PortData
-    requires { ⌜ Played f (now pres) (now posts) index ⌝ }
-    ensures { λ r. ⌜ r ≡ portAt f (now (pres .entry)) (now (posts .entry)) index k ⌝ }
+fn seat_at(f: Frames, k: usize, n: u8) -> Seat
+    ensures { λ r. ⌜ Seated f k n r ⌝ }
 {
+    if n != 0 {
+        return no_seat();
+    }
     if f.ports_in() <= k {
-        return no_port();
+        return no_seat();
     }
     let p = f.port(k);
     let slot = slots_before(f, k);
-    let leader = data_at(f, pres, posts, slot, index);
     if p.has_follower() {
-        let follower = data_at(f, pres, posts, slot + 1, index);
-        return PortData {
+        return Seat {
             port: p.port,
-            follower_given: 1,
-            leader,
-            follower,
+            given: 1,
+            no_leader: 0,
+            no_follower: 0,
+            slot,
+            second: slot + 1,
         };
     }
-    let follower = no_data();
-    PortData {
+    Seat {
         port: p.port,
-        follower_given: 0,
+        given: 0,
+        no_leader: 0,
+        no_follower: 1,
+        slot,
+        second: 0,
+    }
+}
+
+fn data_at(f: Frames, pres: &[u32], posts: &[u32], slot: usize, index: usize, n: u8) -> Data
+    requires { ⌜ (n ≡ 0 → Playing f (now pres) (now posts) slot index) ⌝ }
+    ensures { λ r. ⌜ r ≡ unlessRefused n (dataAt f (now (pres .entry)) (now (posts .entry)) slot index) noData ⌝ }
+{
+    let pre = pre_at(f, pres, slot, index, n);
+    let post = post_at(f, posts, slot, index, n);
+    Data { pre, post }
+}
+
+// The k-th port column's players, or none: one literal for every case, since each one more would take its room on the stack.
+fn port_at(f: Frames, pres: &[u32], posts: &[u32], index: usize, k: usize, n: u8) -> PortData
+    requires { ⌜ (n ≡ 0 → Played f (now pres) (now posts) index) ⌝ }
+    ensures { λ r. ⌜ r ≡ unlessRefused n (portAt f (now (pres .entry)) (now (posts .entry)) index k) noPortData ⌝ }
+{
+    let s = seat_at(f, k, n);
+    let leader = data_at(f, pres, posts, s.slot, index, s.no_leader);
+    let follower = data_at(f, pres, posts, s.second, index, s.no_follower);
+    PortData {
+        port: s.port,
+        follower_given: s.given,
         leader,
         follower,
     }
 }
 
-pub fn ports_at(f: Frames, pres: &[u32], posts: &[u32], index: usize) -> [PortData; 4]
-    requires { ⌜ Played f (now pres) (now posts) index ⌝ }
-    ensures { λ r. ⌜ r ≡ portsAt f (now (pres .entry)) (now (posts .entry)) index ⌝ }
+pub fn ports_at(f: Frames, pres: &[u32], posts: &[u32], index: usize, n: u8) -> [PortData; 4]
+    requires { ⌜ (n ≡ 0 → Played f (now pres) (now posts) index) ⌝ }
+    ensures { λ r. ⌜ r ≡ unlessRefused n (portsAt f (now (pres .entry)) (now (posts .entry)) index) noPorts ⌝ }
 {
-    let a = port_at(f, pres, posts, index, 0);
-    let b = port_at(f, pres, posts, index, 1);
-    let c = port_at(f, pres, posts, index, 2);
-    let d = port_at(f, pres, posts, index, 3);
+    let a = port_at(f, pres, posts, index, 0, n);
+    let b = port_at(f, pres, posts, index, 1, n);
+    let c = port_at(f, pres, posts, index, 2, n);
+    let d = port_at(f, pres, posts, index, 3, n);
     [a, b, c, d]
 }

@@ -8,21 +8,16 @@ use super::fetch::item_at;
 use super::fetch::post_at;
 use super::fetch::pre_at;
 use super::fetch::stadium_transformation_at;
-use super::judge::row_refused;
+use super::judge::place_refused;
+use frames::judge::judge;
 use game::frames::Frames;
 use layout::columns::Family;
 use rows::item::Item;
-use rows::item::no_item;
 use rows::post::Post;
-use rows::post::no_post;
 use rows::pre::Pre;
-use rows::pre::no_pre;
 use rows::small::DreamlandWhispy;
 use rows::small::FodPlatform;
 use rows::small::StadiumTransformation;
-use rows::small::no_dreamland_whispy;
-use rows::small::no_fod_platform;
-use rows::small::no_stadium_transformation;
 
 #[repr(C)]
 pub struct PreRow {
@@ -85,7 +80,7 @@ pub fn pre_row(
         (offsets (now («item_offsets» .entry)) (now («fod_offsets» .entry)) (now («whispy_offsets» .entry)) (now («stadium_offsets» .entry)))
         (now (presence .entry))) slot index ⌝ }
 {
-    let n = row_refused(
+    let judged = judge(
         f,
         ids,
         starts,
@@ -101,16 +96,12 @@ pub fn pre_row(
         whispy_offsets,
         stadium_offsets,
         presence,
-        Family::Pre,
-        slot,
-        index,
+        0,
+        0,
     );
-    if n != 0 {
-        let row = no_pre();
-        return PreRow { refused: n, row };
-    }
-    let row = pre_at(f, pres, slot, index);
-    PreRow { refused: 0, row }
+    let n = place_refused(judged, f, Family::Pre, slot, index);
+    let row = pre_at(f, pres, slot, index, n);
+    PreRow { refused: n, row }
 }
 
 pub fn post_row(
@@ -138,7 +129,7 @@ pub fn post_row(
         (offsets (now («item_offsets» .entry)) (now («fod_offsets» .entry)) (now («whispy_offsets» .entry)) (now («stadium_offsets» .entry)))
         (now (presence .entry))) slot index ⌝ }
 {
-    let n = row_refused(
+    let judged = judge(
         f,
         ids,
         starts,
@@ -154,16 +145,12 @@ pub fn post_row(
         whispy_offsets,
         stadium_offsets,
         presence,
-        Family::Post,
-        slot,
-        index,
+        0,
+        0,
     );
-    if n != 0 {
-        let row = no_post();
-        return PostRow { refused: n, row };
-    }
-    let row = post_at(f, posts, slot, index);
-    PostRow { refused: 0, row }
+    let n = place_refused(judged, f, Family::Post, slot, index);
+    let row = post_at(f, posts, slot, index, n);
+    PostRow { refused: n, row }
 }
 
 pub fn item_row(
@@ -190,7 +177,7 @@ pub fn item_row(
         (offsets (now («item_offsets» .entry)) (now («fod_offsets» .entry)) (now («whispy_offsets» .entry)) (now («stadium_offsets» .entry)))
         (now (presence .entry))) index ⌝ }
 {
-    let n = row_refused(
+    let judged = judge(
         f,
         ids,
         starts,
@@ -206,16 +193,12 @@ pub fn item_row(
         whispy_offsets,
         stadium_offsets,
         presence,
-        Family::Item,
         0,
-        index,
+        0,
     );
-    if n != 0 {
-        let row = no_item();
-        return ItemRow { refused: n, row };
-    }
-    let row = item_at(f, items, index);
-    ItemRow { refused: 0, row }
+    let n = place_refused(judged, f, Family::Item, 0, index);
+    let row = item_at(f, items, index, n);
+    ItemRow { refused: n, row }
 }
 
 pub fn fod_platform_row(
@@ -242,7 +225,7 @@ pub fn fod_platform_row(
         (offsets (now («item_offsets» .entry)) (now («fod_offsets» .entry)) (now («whispy_offsets» .entry)) (now («stadium_offsets» .entry)))
         (now (presence .entry))) index ⌝ }
 {
-    let n = row_refused(
+    let judged = judge(
         f,
         ids,
         starts,
@@ -258,16 +241,12 @@ pub fn fod_platform_row(
         whispy_offsets,
         stadium_offsets,
         presence,
-        Family::FodPlatform,
         0,
-        index,
+        0,
     );
-    if n != 0 {
-        let row = no_fod_platform();
-        return FodPlatformRow { refused: n, row };
-    }
-    let row = fod_platform_at(f, fods, index);
-    FodPlatformRow { refused: 0, row }
+    let n = place_refused(judged, f, Family::FodPlatform, 0, index);
+    let row = fod_platform_at(f, fods, index, n);
+    FodPlatformRow { refused: n, row }
 }
 
 pub fn dreamland_whispy_row(
@@ -294,7 +273,7 @@ pub fn dreamland_whispy_row(
         (offsets (now («item_offsets» .entry)) (now («fod_offsets» .entry)) (now («whispy_offsets» .entry)) (now («stadium_offsets» .entry)))
         (now (presence .entry))) index ⌝ }
 {
-    let n = row_refused(
+    let judged = judge(
         f,
         ids,
         starts,
@@ -310,16 +289,12 @@ pub fn dreamland_whispy_row(
         whispy_offsets,
         stadium_offsets,
         presence,
-        Family::DreamlandWhispy,
         0,
-        index,
+        0,
     );
-    if n != 0 {
-        let row = no_dreamland_whispy();
-        return DreamlandWhispyRow { refused: n, row };
-    }
-    let row = dreamland_whispy_at(f, whispys, index);
-    DreamlandWhispyRow { refused: 0, row }
+    let n = place_refused(judged, f, Family::DreamlandWhispy, 0, index);
+    let row = dreamland_whispy_at(f, whispys, index, n);
+    DreamlandWhispyRow { refused: n, row }
 }
 
 pub fn stadium_transformation_row(
@@ -346,7 +321,7 @@ pub fn stadium_transformation_row(
         (offsets (now («item_offsets» .entry)) (now («fod_offsets» .entry)) (now («whispy_offsets» .entry)) (now («stadium_offsets» .entry)))
         (now (presence .entry))) index ⌝ }
 {
-    let n = row_refused(
+    let judged = judge(
         f,
         ids,
         starts,
@@ -362,14 +337,10 @@ pub fn stadium_transformation_row(
         whispy_offsets,
         stadium_offsets,
         presence,
-        Family::StadiumTransformation,
         0,
-        index,
+        0,
     );
-    if n != 0 {
-        let row = no_stadium_transformation();
-        return StadiumTransformationRow { refused: n, row };
-    }
-    let row = stadium_transformation_at(f, stadiums, index);
-    StadiumTransformationRow { refused: 0, row }
+    let n = place_refused(judged, f, Family::StadiumTransformation, 0, index);
+    let row = stadium_transformation_at(f, stadiums, index, n);
+    StadiumTransformationRow { refused: n, row }
 }

@@ -1,7 +1,7 @@
 -- `de::step_at` meets its contract.
 -- Assumes nothing.
 use borrow.Author.Needs.{needs}
-use mathlib.Core.Path.{sym, ap, _∙_}
+use mathlib.Core.Path.{refl, sym, ap, _∙_}
 use Rattle.head.specs.Numbers.{stepNumbers}
 use Rattle.head.proofs.Steps.{refused-step}
 use Rattle.de.proofs.step_at.Statement.{statement}
@@ -14,8 +14,8 @@ returns c =
 
 in-data-requires : tie.Need-in-data-requires
 in-data-requires c κs =
-    let n = c .before .before .before in
-    let t = n .before .before .before .before .before in
+    let n = c .before .before .before .before .before .before in
+    let t = n .before in
     let p = t .before .before .parse-head in
     p .ensures .opened (sym (p .ensures .refusal-is) ∙ t .if1 .left) _ (n .near .ensures)
 
@@ -23,11 +23,10 @@ pub step-at-spec : {M : Type 1} → statement M
 step-at-spec =
     tie.close
     (tie.spec
-    (λ c κs. search needs)
+    (λ c. search needs)
+    (λ c κs. record { empty = refl })
     returns
     (λ c κs. tt)
-    (λ c. search needs)
-    (λ c. search needs)
     (λ c. search needs)
     in-data-requires
     (λ c. ap stepNumbers (c .in-data .ensures .0)))

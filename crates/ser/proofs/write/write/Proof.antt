@@ -39,20 +39,25 @@ cast-put-front c =
 put-front-requires : tie.Need-put-front-requires
 put-front-requires c κs =
     let p = passes _ _ (sym (c .before .before .before .before .before .before .before .before .before .refused .ensures) ∙ c .before .before .before .before .before .before .before .before .if1 .left) in
-    let (long, short) = block-fits _ _ (p .block) in
-    (long, omega arith, p .start, room-first _ (room p _ (c .before .before .before .before .before .raw-len .ensures .0) _ (total-is p _ (c .before .before .before .before .before .raw-len .ensures .0) _ _ _ (c .before .before .before .before .is-given .ensures) (c .before .before .before .given-bytes .ensures) (c .before .before .tail-len .ensures .0)) (c .before .if2 .left)))
+    (omega (arith, block-fits _ _ (p .block)), room-first _ (room p _ (c .before .before .before .before .before .raw-len .ensures .0) _ (total-is p _ (c .before .before .before .before .before .raw-len .ensures .0) _ _ _ (c .before .before .before .before .is-given .ensures) (c .before .before .before .given-bytes .ensures) (c .before .before .tail-len .ensures .0)) (c .before .if2 .left)))
+
+put-block-requires : tie.Need-put-block-requires
+put-block-requires c κs =
+    let p = passes _ _ (sym (c .before .before .before .before .before .before .before .before .before .before .before .before .before .refused .ensures) ∙ c .before .before .before .before .before .before .before .before .before .before .before .before .if1 .left) in
+    let r = room p _ (c .before .before .before .before .before .before .before .before .before .raw-len .ensures .0) _ (total-is p _ (c .before .before .before .before .before .before .before .before .before .raw-len .ensures .0) _ _ _ (c .before .before .before .before .before .before .before .before .is-given .ensures) (c .before .before .before .before .before .before .before .given-bytes .ensures) (c .before .before .before .before .before .before .tail-len .ensures .0)) (c .before .before .before .before .before .if2 .left) in
+    (block-fits _ _ (p .block) .0, p .start, room-first _ (room-second r (c .before .before .before .put-front .ensures)))
 
 put-rest-requires : tie.Need-put-rest-requires
 put-rest-requires c κs =
-    let p = passes _ _ (sym (c .before .before .before .before .before .before .before .before .before .before .before .before .before .refused .ensures) ∙ c .before .before .before .before .before .before .before .before .before .before .before .before .if1 .left) in
-    let r = room p _ (c .before .before .before .before .before .before .before .before .before .raw-len .ensures .0) _ (total-is p _ (c .before .before .before .before .before .before .before .before .before .raw-len .ensures .0) _ _ _ (c .before .before .before .before .before .before .before .before .is-given .ensures) (c .before .before .before .before .before .before .before .given-bytes .ensures) (c .before .before .before .before .before .before .tail-len .ensures .0)) (c .before .before .before .before .before .if2 .left) in
-    (whole p, framed (p .frames), c .before .before .before .before .before .before .before .before .before .before .slots-of .ensures, room-second r (c .before .before .before .put-front .ensures))
+    let p = passes _ _ (sym (c .before .before .before .before .before .before .before .before .before .before .before .before .before .before .before .before .before .refused .ensures) ∙ c .before .before .before .before .before .before .before .before .before .before .before .before .before .before .before .before .if1 .left) in
+    let r = room p _ (c .before .before .before .before .before .before .before .before .before .before .before .before .before .raw-len .ensures .0) _ (total-is p _ (c .before .before .before .before .before .before .before .before .before .before .before .before .before .raw-len .ensures .0) _ _ _ (c .before .before .before .before .before .before .before .before .before .before .before .before .is-given .ensures) (c .before .before .before .before .before .before .before .before .before .before .before .given-bytes .ensures) (c .before .before .before .before .before .before .before .before .before .before .tail-len .ensures .0)) (c .before .before .before .before .before .before .before .before .before .if2 .left) in
+    (whole p, framed (p .frames), c .before .before .before .before .before .before .before .before .before .before .before .before .before .before .slots-of .ensures, room-second (room-second r (c .before .before .before .before .before .before .before .put-front .ensures)) (c .before .before .before .put-block .ensures))
 
 returns-3 : tie.Need-returns-3
 returns-3 c =
-    let p = passes _ _ (sym (c .before .before .before .before .before .before .before .before .before .before .before .before .before .before .before .before .refused .ensures) ∙ c .before .before .before .before .before .before .before .before .before .before .before .before .before .before .before .if1 .left) in
-    written _ _ (c .before .before .before .before .before .before .before .before .before .before .before .before .before .before .before .before .refused .ensures) (c .before .before .before .before .before .before .before .before .before .before .before .before .before .before .before .if1 .left) (total-is p _ (c .before .before .before .before .before .before .before .before .before .before .before .before .raw-len .ensures .0) _ _ _ (c .before .before .before .before .before .before .before .before .before .before .before .is-given .ensures) (c .before .before .before .before .before .before .before .before .before .before .given-bytes .ensures) (c .before .before .before .before .before .before .before .before .before .tail-len .ensures .0)) (c .before .before .before .before .before .before .before .before .if2 .left)
-    (wrote-as (sym (file-as p _ (c .before .before .before .before .before .before .before .before .before .before .before .before .raw-len .ensures .0))) (wrote-then (c .before .before .before .before .before .before .put-front .ensures) (c .before .before .put-rest .ensures)))
+    let p = passes _ _ (sym (c .before .before .before .before .before .before .before .before .before .before .before .before .before .before .before .before .before .before .before .before .refused .ensures) ∙ c .before .before .before .before .before .before .before .before .before .before .before .before .before .before .before .before .before .before .before .if1 .left) in
+    written _ _ (c .before .before .before .before .before .before .before .before .before .before .before .before .before .before .before .before .before .before .before .before .refused .ensures) (c .before .before .before .before .before .before .before .before .before .before .before .before .before .before .before .before .before .before .before .if1 .left) (total-is p _ (c .before .before .before .before .before .before .before .before .before .before .before .before .before .before .before .before .raw-len .ensures .0) _ _ _ (c .before .before .before .before .before .before .before .before .before .before .before .before .before .before .before .is-given .ensures) (c .before .before .before .before .before .before .before .before .before .before .before .before .before .before .given-bytes .ensures) (c .before .before .before .before .before .before .before .before .before .before .before .before .before .tail-len .ensures .0)) (c .before .before .before .before .before .before .before .before .before .before .before .before .if2 .left)
+    (wrote-as (sym (file-as p _ (c .before .before .before .before .before .before .before .before .before .before .before .before .before .before .before .before .raw-len .ensures .0))) (wrote-then (c .before .before .before .before .before .before .before .before .before .before .put-front .ensures) (wrote-then (c .before .before .before .before .before .before .put-block .ensures) (c .before .before .put-rest .ensures))))
 
 pub write-spec : {M : Type 1} → statement M
 write-spec =
@@ -70,6 +75,7 @@ write-spec =
     returns-2
     cast-put-front
     put-front-requires
+    put-block-requires
     put-rest-requires
     (λ c. search needs)
     returns-3)

@@ -10,7 +10,7 @@ use Rattle.start.proofs.block.put_fields.Statement.{statement}
 use Rattle.start.proofs.block.put_fields.Tie as tie
 
 put-game-requires : tie.Need-put-game-requires
-put-game-requires c κs = omega (arith, at-least (c .before .before .before .args .v))
+put-game-requires c κs = omega (arith, at-least (c .before .before .args .v))
 
 put-seats-requires : tie.Need-put-seats-requires
 put-seats-requires c κs = (omega arith, good-start _ _ (c .before .before .before .before .before .before .before .pre .1) .0)

@@ -1,65 +1,52 @@
--- `start::judge::has_bad_seat` meets its contract: the seats that are left answer for all.
+-- `start::judge::has_bad_seat` meets its contract: one seat after another.
 -- Assumes nothing.
-use mathlib.Core.Path.{_≡_, refl, sym, _∙_}
-use mathlib.Core.List.{map}
-use Prim.Native.Nat.{_-_, _≤_}
+use mathlib.Core.Path.{refl, sym, _∙_}
 use native.Mathlib.Omega.{arith}
-use lib.ListN.{drop}
+use borrow.Author.Needs.{needs}
 use Rattle.format.proofs.Tests.{rest-here, rest-skip, rest-none}
-use Rattle.format.specs.Refusal.{oneOf}
 use Rattle.start.specs.Refusal.{badSeat}
 use Rattle.start.proofs.judge.has_bad_seat.Statement.{statement}
 use Rattle.start.proofs.judge.has_bad_seat.Tie as tie
 
-abbrev Inv-loop : tie.InvT-loop
-Inv-loop v seats n₀ n = (n ≤ 4) × (oneOf (map (badSeat v) seats) ≡ oneOf (map (badSeat v) (drop n seats)))
-
-abbrev μ-loop : tie.MeasureT-loop
-μ-loop v seats n₀ n = 4 - n
-
-loop-holds : tie.Need-loop-holds Inv-loop μ-loop
-loop-holds c = (omega arith, refl)
-
-mul-p : tie.Need-mul-p Inv-loop μ-loop
-mul-p c = omega arith
-
-array-copy-out-p : tie.Need-array-copy-out-p Inv-loop μ-loop
-array-copy-out-p c = omega arith
-
-is-bad-seat-requires : tie.Need-is-bad-seat-requires Inv-loop μ-loop
-is-bad-seat-requires c κs = tt
-
-returns : tie.Need-returns Inv-loop μ-loop
+returns : tie.Need-returns
 returns c =
-    let l = c .before .before .before .before .loop in
-    rest-here _ _ _ _ (l .n) (omega arith) (sym (c .before .is-bad-seat .ensures) ∙ c .if1 .taken) (l .inv .1)
+    let a = c .before .before .before .args in
+    rest-here _ (badSeat (a .v)) _ (a .t2) 0 (omega arith) (sym (c .before .is-bad-seat .ensures) ∙ c .if1 .taken) refl
 
-add-n : tie.Need-add-n Inv-loop μ-loop
-add-n c = omega arith
+returns-2 : tie.Need-returns-2
+returns-2 c =
+    let a = c .before .before .before .before .before .before .args in
+    rest-here _ (badSeat (a .v)) _ (a .t2) 1 (omega arith) (sym (c .before .is-bad-seat2 .ensures) ∙ c .if2 .taken) (rest-skip _ (badSeat (a .v)) _ (a .t2) 0 (omega arith) (sym (c .before .before .before .before .is-bad-seat .ensures) ∙ c .before .before .before .if1 .left) refl)
 
-loop-less : tie.Need-loop-less Inv-loop μ-loop
-loop-less c = omega arith
+returns-3 : tie.Need-returns-3
+returns-3 c =
+    let a = c .before .before .before .before .before .before .before .before .before .args in
+    rest-here _ (badSeat (a .v)) _ (a .t2) 2 (omega arith) (sym (c .before .is-bad-seat3 .ensures) ∙ c .if3 .taken) (rest-skip _ (badSeat (a .v)) _ (a .t2) 1 (omega arith) (sym (c .before .before .before .before .is-bad-seat2 .ensures) ∙ c .before .before .before .if2 .left) (rest-skip _ (badSeat (a .v)) _ (a .t2) 0 (omega arith) (sym (c .before .before .before .before .before .before .before .is-bad-seat .ensures) ∙ c .before .before .before .before .before .before .if1 .left) refl))
 
-loop-again : tie.Need-loop-again Inv-loop μ-loop
-loop-again c =
-    let l = c .before .before .before .before .loop in
-    (omega arith, rest-skip _ _ _ _ (l .n) (omega arith) (sym (c .before .is-bad-seat .ensures) ∙ c .if1 .left) (l .inv .1))
+returns-4 : tie.Need-returns-4
+returns-4 c =
+    let a = c .before .before .before .before .before .before .before .before .before .before .before .before .args in
+    rest-here _ (badSeat (a .v)) _ (a .t2) 3 (omega arith) (sym (c .before .is-bad-seat4 .ensures) ∙ c .if4 .taken) (rest-skip _ (badSeat (a .v)) _ (a .t2) 2 (omega arith) (sym (c .before .before .before .before .is-bad-seat3 .ensures) ∙ c .before .before .before .if3 .left) (rest-skip _ (badSeat (a .v)) _ (a .t2) 1 (omega arith) (sym (c .before .before .before .before .before .before .before .is-bad-seat2 .ensures) ∙ c .before .before .before .before .before .before .if2 .left) (rest-skip _ (badSeat (a .v)) _ (a .t2) 0 (omega arith) (sym (c .before .before .before .before .before .before .before .before .before .before .is-bad-seat .ensures) ∙ c .before .before .before .before .before .before .before .before .before .if1 .left) refl)))
 
-returns-2 : tie.Need-returns-2 Inv-loop μ-loop
-returns-2 c = rest-none _ _ _ (c .before .loop .n) (omega arith) (c .before .loop .inv .1)
+returns-5 : tie.Need-returns-5
+returns-5 c =
+    let a = c .before .before .before .before .before .before .before .before .before .before .before .before .args in
+    rest-none (badSeat (a .v)) _ (a .t2) 4 (omega arith) (rest-skip _ (badSeat (a .v)) _ (a .t2) 3 (omega arith) (sym (c .before .is-bad-seat4 .ensures) ∙ c .if4 .left) (rest-skip _ (badSeat (a .v)) _ (a .t2) 2 (omega arith) (sym (c .before .before .before .before .is-bad-seat3 .ensures) ∙ c .before .before .before .if3 .left) (rest-skip _ (badSeat (a .v)) _ (a .t2) 1 (omega arith) (sym (c .before .before .before .before .before .before .before .is-bad-seat2 .ensures) ∙ c .before .before .before .before .before .before .if2 .left) (rest-skip _ (badSeat (a .v)) _ (a .t2) 0 (omega arith) (sym (c .before .before .before .before .before .before .before .before .before .before .is-bad-seat .ensures) ∙ c .before .before .before .before .before .before .before .before .before .if1 .left) refl))))
 
 pub has-bad-seat-spec : {M : Type 1} → statement M
 has-bad-seat-spec =
     tie.close
     (tie.spec
-    Inv-loop
-    μ-loop
-    loop-holds
-    mul-p
-    array-copy-out-p
-    is-bad-seat-requires
+    (λ c. search needs)
+    (λ c κs. search needs)
     returns
-    add-n
-    loop-less
-    loop-again
-    returns-2)
+    (λ c. search needs)
+    (λ c κs. search needs)
+    returns-2
+    (λ c. search needs)
+    (λ c κs. search needs)
+    returns-3
+    (λ c. search needs)
+    (λ c κs. search needs)
+    returns-4
+    returns-5)
