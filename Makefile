@@ -32,10 +32,13 @@ TESTS := $(PROGRAMS:%=target/c/bin/%) target/c/bin/header_examples target/c/bin/
 
 all: $(SLP_LIB) $(TOOL)
 
+# The crates that it stands on are proved first, side by side: on its own `rt staticlib` proves one after another.
 target/staticlib/libslp.a:
+	rt check slp
 	rt staticlib slp
 
 lib:
+	rt check slp
 	rt staticlib slp
 
 $(TOOL): $(TOOL_OBJECTS) $(SLP_LIB)
