@@ -42,7 +42,7 @@ enum {
 	/* start block shorter than the version's length, or over 65,535 */
 	SLP_BAD_BLOCK = 8,
 	/* a start field that the version writes is missing, a player type above 2, CPU without level, or a text that the version writes is
-	 * too long */
+	 * too long or has a zero among its counted bytes */
 	SLP_BAD_START = 9,
 	/* codes given before 3.3, or their bytes are not the actual size rounded up to 512 */
 	SLP_BAD_CODES = 10,
@@ -185,7 +185,7 @@ typedef struct {
 	size_t port_count;
 } slp_frames;
 
-/* A text: the first `len` bytes. */
+/* A text: the first `len` bytes, none of them zero where the version writes it. What follows them is ignored. */
 typedef struct {
 	uint8_t bytes[50];
 	size_t len;

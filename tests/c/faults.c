@@ -167,6 +167,12 @@ static slp_game misread(slp_game g)
 		g.frames.version.patch = 0;
 	if (faulty("write-absent"))
 		g.frames.ports[0].leader_presence = 0;
+	if (faulty("write-zero-inside") && g.start.match_info.id.len < 50 && memchr(g.start.match_info.id.bytes, 0, g.start.match_info.id.len))
+		g.start.match_info.id.len = 0;
+	if (faulty("write-zero-last") && g.start.match_info.id.len == 50 && g.start.match_info.id.bytes[49] == 0)
+		g.start.match_info.id.bytes[49] = 1;
+	if (faulty("write-zero-past") && g.frames.version.minor == 18 && memchr(g.start.seats[1].name_tag.bytes, 0, 17))
+		g.start.seats[1].kind = 3;
 	return g;
 }
 

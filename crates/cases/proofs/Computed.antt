@@ -21,7 +21,8 @@ use Rattle.game.specs.Frames.{portsOf, portSlots, portBytes, slotsFrom, slotsOf
 use Rattle.players.specs.Presence.{marked, countFrom, playersPresent, uneven, portUneven, portsUneven, presenceWrong}
 use Rattle.frames.specs.Judge.{tooMany, misfits, storesMisfit, columnsExceed, blocksExceed, exceeds, cellsExceed, falls, strays, leftOver, misleads, offsetsMislead, portNumbers, twice, portsWrong, refusals}
 use Rattle.start.specs.Length.{reached, lengthOf}
-use Rattle.start.specs.Refusal.{blockWrong, missing, tooLong, badSeat, badStart}
+use Rattle.start.specs.Refusal.{blockWrong, missing, tooLong, holdsZero, badSeat, badStart}
+use Rattle.patch.specs.Field.{zeroInside}
 use Rattle.patch.specs.Patch.{patched}
 use Rattle.start.specs.Block.{gameFields, seatsFields, modeFields, matchFields, fields, startBlock}
 use Rattle.codes.specs.Blocks.{blockCount, used, lastFlag, codesWrong, codeEvents, codeBlock}
@@ -120,7 +121,7 @@ allRight (c ∷ cs) = both (right c) (allRight cs)
 
 -- computed
 test : T (allRight cases)
-unfolding cases rawLength judged refusals lowest oneOf tooMany storesMisfit misfits cellsExceed exceeds blocksExceed columnsExceed offsetsMislead misleads strays leftOver falls presenceWrong portsUneven portUneven uneven portsWrong portNumbers twice slotsOf slotsFrom portsOf portSlots portBytes marked countFrom playersPresent framesLength tabulate ranged keep sum chosen columnsOf hasFamily listed payloadSize entriesOf endSize acceptedOf above gteOf blockWrong lengthOf reached badStart badSeat missing tooLong codesWrong codeEvents codeBlock blockCount used lastFlag endWrong initiatorWrong endEvents endOf tailOf be more part splice entriesBytes tableBytes eventsBytes fileOf file events framesEvents frameEvents oneEvent rowEvents playerEvents startBlock fields gameFields seatsFields modeFields matchFields patched startsWith stopOf allPresent entriesIn tableOf spanOf codeTwice tableMissing unsigned untabled headRefusal eventIn stepIn stepOf run walkOf placeOf occurs maskOf needed allInRange answerOf
+unfolding cases rawLength judged refusals lowest oneOf tooMany storesMisfit misfits cellsExceed exceeds blocksExceed columnsExceed offsetsMislead misleads strays leftOver falls presenceWrong portsUneven portUneven uneven portsWrong portNumbers twice slotsOf slotsFrom portsOf portSlots portBytes marked countFrom playersPresent framesLength tabulate ranged keep sum chosen columnsOf hasFamily listed payloadSize entriesOf endSize acceptedOf above gteOf blockWrong lengthOf reached badStart badSeat missing tooLong holdsZero zeroInside codesWrong codeEvents codeBlock blockCount used lastFlag endWrong initiatorWrong endEvents endOf tailOf be more part splice entriesBytes tableBytes eventsBytes fileOf file events framesEvents frameEvents oneEvent rowEvents playerEvents startBlock fields gameFields seatsFields modeFields matchFields patched startsWith stopOf allPresent entriesIn tableOf spanOf codeTwice tableMissing unsigned untabled headRefusal eventIn stepIn stepOf run walkOf placeOf occurs maskOf needed allInRange answerOf
 test = tt
 
 -- ---- any case

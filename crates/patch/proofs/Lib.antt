@@ -1,1 +1,3 @@
 pub mod Patches
+pub mod Positions
+pub mod Viewed

@@ -3,7 +3,7 @@ ghost use mathlib.Core.Path.{_≡_};
 ghost use mathlib.Core.Bool.{cond};
 ghost use Prim.Native.Nat.{_+_, _≤_};
 ghost use lib.ListN.{length, take};
-ghost use Rattle.wire.specs.Wire.{Wrote};
+ghost use Rattle.wire.specs.Wire.{part, Wrote};
 ghost use Rattle.patch.specs.Field.{flagOf, zeroFilled};
 ghost use Rattle.patch.specs.Inner.{Patched, numberPatches, Fit};
 use game::start::Text;
@@ -52,7 +52,7 @@ fn put_first(block: &mut [u8], at: usize, src: &[u8], n: usize) -> usize
 // A text, and zeros up to the field's width.
 pub fn put_filled(block: &mut [u8], at: usize, width: usize, t: Text) -> usize
     requires { ⌜ (t .len ≤ 50) × (t .len ≤ width) × (width ≤ 51) × (at + width ≤ length (now block)) ⌝ }
-    ensures { λ r. ⌜ Wrote (now (block .entry)) (now (block .exit)) at r (zeroFilled width t) ⌝ }
+    ensures { λ r. ⌜ Wrote (now (block .entry)) (now (block .exit)) at r (zeroFilled width t) × (part (now (block .exit)) at width ≡ zeroFilled width t) ⌝ }
 {
     let zeros = [0u8; 51];
     let n = t.len;

@@ -5,3 +5,4 @@ pub mod Cases
 pub mod Seats
 pub mod Blocks
 pub mod BlockCases
+pub mod Views

@@ -14,10 +14,11 @@ use Rattle.format.specs.declared.version.Version.{Version}
 use Rattle.format.proofs.Tests.{or-none, one-last, one-passed}
 use Rattle.format.specs.Mark.{yes}
 use Rattle.format.specs.Refusal.{oneOf}
+use Rattle.patch.specs.Field.{zeroInside}
 use Rattle.start.specs.declared.gate.Gate.{Gate}
 use Rattle.start.specs.Gate.{reaches, tagFrom, netplayFrom, suidFrom, matchFrom}
 use Rattle.start.specs.Length.{lengthOf}
-use Rattle.start.specs.Refusal.{blockWrong, tooLong, textTooLong, badSeat, badStart}
+use Rattle.start.specs.Refusal.{blockWrong, tooLong, holdsZero, textTooLong, textHoldsZero, badSeat, badStart}
 use Rattle.game.specs.declared.start.Text.{Text}
 use Rattle.game.specs.declared.start.Seat.{Seat}
 use Rattle.game.specs.declared.start.Start.{Start}
@@ -83,6 +84,10 @@ pub short-text : (v : Version) (g : Gate) (limit : ℕ) (t : Text) → tooLong v
 unfolding tooLong
 short-text v g limit t e on = ltb-false limit (t .len) (unasked (reaches v g) (ltb limit (t .len)) e on)
 
+pub clean-text : (v : Version) (g : Gate) (t : Text) → holdsZero v g t ≡ false → reaches v g ≡ true → zeroInside t ≡ false
+unfolding holdsZero
+clean-text v g t e on = unasked (reaches v g) (zeroInside t) e on
+
 -- the texts that v writes of a player
 pub record Short (v : Version) (p : Seat) : Type 0 where
   pub tag : reaches v tagFrom ≡ true → p .«name_tag» .len ≤ 16
@@ -99,13 +104,28 @@ short-texts v p e =
     let d = one-passed _ _ (c .1) in
     record { tag = short-text v tagFrom 16 _ (a .0); name = short-text v netplayFrom 30 _ (b .0); code = short-text v netplayFrom 9 _ (c .0); suid = short-text v suidFrom 28 _ (d .0) }
 
-pub seat-texts : (v : Version) (p : Seat) → badSeat v p ≡ false → yes (p .given) ≡ true → textTooLong v p ≡ false
+pub record Clean (v : Version) (p : Seat) : Type 0 where
+  pub tag : holdsZero v tagFrom (p .«name_tag») ≡ false
+  pub name : holdsZero v netplayFrom (p .netplay .name) ≡ false
+  pub code : holdsZero v netplayFrom (p .netplay .code) ≡ false
+  pub suid : holdsZero v suidFrom (p .netplay .suid) ≡ false
+
+pub clean-texts : (v : Version) (p : Seat) → textHoldsZero v p ≡ false → Clean v p
+unfolding textHoldsZero
+clean-texts v p e =
+    let a = one-passed _ _ e in
+    let b = one-passed _ _ (a .1) in
+    let c = one-passed _ _ (b .1) in
+    record { tag = a .0; name = b .0; code = c .0; suid = one-passed _ _ (c .1) .0 }
+
+pub seat-texts : (v : Version) (p : Seat) → badSeat v p ≡ false → yes (p .given) ≡ true → (textTooLong v p ≡ false) × (textHoldsZero v p ≡ false)
 unfolding badSeat
 seat-texts v p e on =
     let a = one-passed _ _ (unasked (yes (p .given)) _ e on) in
     let b = one-passed _ _ (a .1) in
     let c = one-passed _ _ (b .1) in
-    one-passed _ _ (c .1) .0
+    let d = one-passed _ _ (c .1) in
+    (d .0, one-passed _ _ (d .1) .0)
 
 -- an element of a list, and those after it
 pub none-at : {A : Type 0} (f : A → Bool) (d : A) (xs : List A) (n : ℕ) → n < length xs → oneOf (map f (drop n xs)) ≡ false → f (getD xs n d) ≡ false
@@ -120,7 +140,8 @@ none-past f (x ∷ xs) (suc n) e = none-past f xs n e
 pub none-later : {A : Type 0} (f : A → Bool) (xs : List A) (n : ℕ) → oneOf (map f (drop n xs)) ≡ false → oneOf (map f (drop (n + 1) xs)) ≡ false
 none-later f xs n e = rw add-one (none-past f xs n e)
 
-pub good-start : (v : Version) (s : Start) → badStart v s ≡ false → (oneOf (map (badSeat v) (s .seats)) ≡ false) × (tooLong v matchFrom 50 (s .«match_info» .id) ≡ false)
+pub good-start : (v : Version) (s : Start) → badStart v s ≡ false
+    → (oneOf (map (badSeat v) (s .seats)) ≡ false) × (tooLong v matchFrom 50 (s .«match_info» .id) ≡ false) × (holdsZero v matchFrom (s .«match_info» .id) ≡ false)
 unfolding badStart
 good-start v s e =
     let a = one-passed _ _ e in
@@ -129,4 +150,5 @@ good-start v s e =
     let d = one-passed _ _ (c .1) in
     let f = one-passed _ _ (d .1) in
     let g = one-passed _ _ (f .1) in
-    (a .0, one-passed _ _ (g .1) .0)
+    let h = one-passed _ _ (g .1) in
+    (a .0, h .0, one-passed _ _ (h .1) .0)

@@ -7,6 +7,7 @@ use lib.Dec.{ltb, eqb}
 use Rattle.format.specs.Mark.{no, yes}
 use Rattle.format.specs.Refusal.{oneOf}
 use Rattle.format.specs.declared.version.Version.{Version}
+use Rattle.patch.specs.Field.{zeroInside}
 use Rattle.start.specs.declared.gate.Gate.{Gate}
 use Rattle.start.specs.Gate.{reaches, ucfFrom, tagFrom, palFrom, frozenFrom, sceneFrom, netplayFrom, suidFrom, languageFrom, matchFrom}
 use Rattle.start.specs.Length.{lengthOf}
@@ -25,6 +26,10 @@ missing v g mark = reaches v g && no mark
 -- a text that v writes has more bytes than its limit
 unfoldable pub tooLong : Version → Gate → ℕ → Text → Bool
 tooLong v g limit t = reaches v g && ltb limit (t .len)
+
+-- a text that v writes has a zero byte among its counted bytes: a viewer would stop there
+unfoldable pub holdsZero : Version → Gate → Text → Bool
+holdsZero v g t = reaches v g && zeroInside t
 
 -- ---- of a player who is there
 
@@ -52,8 +57,17 @@ textTooLong v p =
     ∷ tooLong v suidFrom 28 (p .netplay .suid)
     ∷ [])
 
+unfoldable pub textHoldsZero : Version → Seat → Bool
+textHoldsZero v p =
+    oneOf
+    (holdsZero v tagFrom (p .«name_tag»)
+    ∷ holdsZero v netplayFrom (p .netplay .name)
+    ∷ holdsZero v netplayFrom (p .netplay .code)
+    ∷ holdsZero v suidFrom (p .netplay .suid)
+    ∷ [])
+
 unfoldable pub badSeat : Version → Seat → Bool
-badSeat v p = yes (p .given) && oneOf (fieldMissing v p ∷ typeAbove2 p ∷ cpuWithoutLevel p ∷ textTooLong v p ∷ [])
+badSeat v p = yes (p .given) && oneOf (fieldMissing v p ∷ typeAbove2 p ∷ cpuWithoutLevel p ∷ textTooLong v p ∷ textHoldsZero v p ∷ [])
 
 -- ---- 9: of the start
 
@@ -67,4 +81,5 @@ badStart v s =
     ∷ missing v languageFrom (s .language .given)
     ∷ missing v matchFrom (s .«match_info» .given)
     ∷ tooLong v matchFrom 50 (s .«match_info» .id)
+    ∷ holdsZero v matchFrom (s .«match_info» .id)
     ∷ [])

@@ -7,7 +7,8 @@ ghost use lib.ListN.{length};
 ghost use Rattle.wire.specs.Wire.{Room, Wrote};
 ghost use Rattle.start.specs.Gate.{matchFrom};
 ghost use Rattle.start.specs.Length.{lengthOf};
-ghost use Rattle.start.specs.Refusal.{tooLong, badStart};
+ghost use Rattle.start.specs.Refusal.{tooLong, holdsZero, badStart};
+ghost use Rattle.patch.specs.Field.{text, zeroInside, readAt};
 ghost use Rattle.patch.specs.Inner.{Patched};
 ghost use Rattle.start.specs.Block.{gameFields, modeFields, matchId, matchFields, fields, startBlock};
 use super::field::put_flag;
@@ -63,10 +64,10 @@ fn put_modes(block: &mut [u8], v: Version, s: Start)
     put_number(block, v, Gate::LANGUAGE, 700, 1, s.language.value as u32);
 }
 
-// The match id ends with one zero: the bytes after that stay.
+// The match id ends with one zero: the bytes after that stay. A viewer who reads its 51 bytes up to the first zero reads the id.
 fn put_match_id(block: &mut [u8], id: Text)
-    requires { ⌜ (id .len ≤ 50) × (752 ≤ length (now block)) ⌝ }
-    ensures { λ r. ⌜ Patched (now (block .entry)) (now (block .exit)) (matchId id ∷ []) ⌝ }
+    requires { ⌜ (id .len ≤ 50) × (752 ≤ length (now block)) × (zeroInside id ≡ false) ⌝ }
+    ensures { λ r. ⌜ Patched (now (block .entry)) (now (block .exit)) (matchId id ∷ []) × (readAt (now (block .exit)) 701 51 ≡ text id) ⌝ }
 {
     let ended = id.len + 1;
     put_filled(block, 701, ended, id);
@@ -74,7 +75,7 @@ fn put_match_id(block: &mut [u8], id: Text)
 
 // The match.
 fn put_match(block: &mut [u8], v: Version, m: Match)
-    requires { ⌜ (lengthOf v ≤ length (now block)) × (tooLong v matchFrom 50 (m .id) ≡ false) ⌝ }
+    requires { ⌜ (lengthOf v ≤ length (now block)) × (tooLong v matchFrom 50 (m .id) ≡ false) × (holdsZero v matchFrom (m .id) ≡ false) ⌝ }
     ensures { λ r. ⌜ Patched (now (block .entry)) (now (block .exit)) (matchFields v m) ⌝ }
 {
     if Gate::MATCH.reached(v) {

@@ -1,8 +1,10 @@
 // Which start blocks and which starts are refused.
 ghost use mathlib.Core.Path.{_≡_};
 ghost use mathlib.Core.List.{map};
+ghost use lib.ListN.{take};
+ghost use Rattle.patch.specs.Field.{isZero};
 ghost use Rattle.format.specs.Refusal.{oneOf};
-ghost use Rattle.start.specs.Refusal.{blockWrong, missing, tooLong, fieldMissing, cpuWithoutLevel, textTooLong, badSeat, badStart};
+ghost use Rattle.start.specs.Refusal.{blockWrong, missing, tooLong, holdsZero, fieldMissing, cpuWithoutLevel, textTooLong, textHoldsZero, badSeat, badStart};
 use super::gate::Gate;
 use super::length::block_length;
 use format::version::Version;
@@ -36,6 +38,40 @@ fn is_too_long(v: Version, g: Gate, limit: usize, t: Text) -> bool
 {
     if g.reached(v) {
         return limit < t.len;
+    }
+    false
+}
+
+// Whether one of the bytes is zero.
+fn has_zero(bytes: &[u8]) -> bool
+    ensures { λ r. ⌜ r ≡ oneOf (map isZero (now (bytes .entry))) ⌝ }
+{
+    let mut i = 0;
+    while i < bytes.len() {
+        if bytes[i] == 0 {
+            return true;
+        }
+        i += 1;
+    }
+    false
+}
+
+// Whether one of the first n bytes is zero, or of all where there are fewer.
+fn counts_zero(bytes: &[u8], n: usize) -> bool
+    ensures { λ r. ⌜ r ≡ oneOf (map isZero (take n (now (bytes .entry)))) ⌝ }
+{
+    if bytes.len() < n {
+        return has_zero(bytes);
+    }
+    has_zero(&bytes[..n])
+}
+
+// Whether a text that v writes has a zero byte among its counted bytes.
+fn holds_zero(v: Version, g: Gate, t: Text) -> bool
+    ensures { λ r. ⌜ r ≡ holdsZero v g t ⌝ }
+{
+    if g.reached(v) {
+        return counts_zero(&t.bytes, t.len);
     }
     false
 }
@@ -80,6 +116,22 @@ fn has_long_text(v: Version, p: Seat) -> bool
     is_too_long(v, Gate::SUID, 28, netplay.suid)
 }
 
+fn has_text_with_zero(v: Version, p: Seat) -> bool
+    ensures { λ r. ⌜ r ≡ textHoldsZero v p ⌝ }
+{
+    let netplay = p.netplay;
+    if holds_zero(v, Gate::TAG, p.name_tag) {
+        return true;
+    }
+    if holds_zero(v, Gate::NETPLAY, netplay.name) {
+        return true;
+    }
+    if holds_zero(v, Gate::NETPLAY, netplay.code) {
+        return true;
+    }
+    holds_zero(v, Gate::SUID, netplay.suid)
+}
+
 fn is_bad_seat(v: Version, p: Seat) -> bool
     ensures { λ r. ⌜ r ≡ badSeat v p ⌝ }
 {
@@ -95,7 +147,10 @@ fn is_bad_seat(v: Version, p: Seat) -> bool
     if lacks_level(p) {
         return true;
     }
-    has_long_text(v, p)
+    if has_long_text(v, p) {
+        return true;
+    }
+    has_text_with_zero(v, p)
 }
 
 // A seat at a time, and no loop: a loop is compiled to code that takes all four seats apart and keeps the parts.
@@ -122,7 +177,7 @@ fn has_bad_seat(v: Version, seats: [Seat; 4]) -> bool
 }
 
 // Refusal 9: a field that v writes is missing, a player type is above 2, a CPU has no level, or a text
-// that v writes is too long.
+// that v writes is too long or has a zero inside.
 pub fn is_bad_start(v: Version, s: Start) -> bool
     ensures { λ r. ⌜ r ≡ badStart v s ⌝ }
 {
@@ -146,5 +201,8 @@ pub fn is_bad_start(v: Version, s: Start) -> bool
     if is_missing(v, Gate::MATCH, s.match_info.given) {
         return true;
     }
-    is_too_long(v, Gate::MATCH, 50, game.id)
+    if is_too_long(v, Gate::MATCH, 50, game.id) {
+        return true;
+    }
+    holds_zero(v, Gate::MATCH, game.id)
 }

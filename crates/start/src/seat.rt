@@ -8,7 +8,7 @@ ghost use Rattle.wire.specs.Wire.{keep};
 ghost use Rattle.start.specs.Length.{lengthOf};
 ghost use Rattle.format.specs.Mark.{yes};
 ghost use Rattle.format.specs.Refusal.{oneOf};
-ghost use Rattle.start.specs.Refusal.{textTooLong, badSeat};
+ghost use Rattle.start.specs.Refusal.{textTooLong, textHoldsZero, badSeat};
 ghost use Rattle.patch.specs.Inner.{Patched};
 ghost use Rattle.start.specs.Block.{playerFields, textFields, portFields, seatsFields};
 use super::field::put_number;
@@ -50,7 +50,7 @@ fn put_player(block: &mut [u8], at: usize, p: Seat)
 
 // The texts that v writes of the player of port n.
 fn put_texts(block: &mut [u8], v: Version, n: usize, p: Seat)
-    requires { ⌜ (n < 4) × (lengthOf v ≤ length (now block)) × (textTooLong v p ≡ false) ⌝ }
+    requires { ⌜ (n < 4) × (lengthOf v ≤ length (now block)) × (textTooLong v p ≡ false) × (textHoldsZero v p ≡ false) ⌝ }
     ensures { λ r. ⌜ Patched (now (block .entry)) (now (block .exit)) (textFields v n p) ⌝ }
 {
     let netplay = p.netplay;
@@ -62,7 +62,7 @@ fn put_texts(block: &mut [u8], v: Version, n: usize, p: Seat)
 
 // What v writes of the player of port n.
 fn put_port(block: &mut [u8], v: Version, n: usize, p: Seat)
-    requires { ⌜ (n < 4) × (lengthOf v ≤ length (now block)) × (textTooLong v p ≡ false) ⌝ }
+    requires { ⌜ (n < 4) × (lengthOf v ≤ length (now block)) × (textTooLong v p ≡ false) × (textHoldsZero v p ≡ false) ⌝ }
     ensures { λ r. ⌜ Patched (now (block .entry)) (now (block .exit)) (portFields v n p) ⌝ }
 {
     put_player(block, 100 + 36 * n, p);

@@ -272,6 +272,11 @@ fn start_lines() -> Vec<Line> {
 		seat_line(9, "netplay name of 31 bytes", |s| s.netplay.name = Text::new(&[b'a'; 31])),
 		seat_line(9, "connect code of 10 bytes", |s| s.netplay.code = Text::new(&[b'a'; 10])),
 		seat_line(9, "user id of 29 bytes", |s| s.netplay.suid = Text::new(&[b'a'; 29])),
+		seat_line(9, "name tag `half`, a zero, `half`", |s| s.name_tag = Text::new(b"half\0half")),
+		seat_line(9, "netplay name with a zero first", |s| s.netplay.name = Text::new(b"\0name")),
+		seat_line(9, "connect code with a zero last", |s| s.netplay.code = Text::new(b"CODE#1\0")),
+		seat_line(9, "user id with a zero inside", |s| s.netplay.suid = Text::new(b"user\0id")),
+		both(9, "match id with a zero inside", &base, |c| c.game.start.match_info.id = Text::new(b"mode\0id")),
 		apart(
 			9,
 			"match id of 51 bytes",

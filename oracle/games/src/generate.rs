@@ -185,7 +185,7 @@ fn seat(r: &mut Random, version: (u8, u8)) -> Seat {
 	let kind = r.pick(&[0, 1, 2]);
 	let level = kind == 1 || r.percent(30);
 	let team = r.percent(50);
-	Seat {
+	let mut seat = Seat {
 		given: r.mark(here),
 		character: r.byte(),
 		// a missing player's fields are ignored, so anything may stand there
@@ -211,10 +211,18 @@ fn seat(r: &mut Random, version: (u8, u8)) -> Seat {
 			suid_given: given(r, version, (3, 11)),
 			suid: text(r, utf8, 28, version, (3, 11)),
 		},
+	};
+	// nor is a zero inside a missing player's texts looked for
+	if !here {
+		for text in [&mut seat.name_tag, &mut seat.netplay.name, &mut seat.netplay.code, &mut seat.netplay.suid] {
+			text.bytes[0] = 0;
+		}
 	}
+	seat
 }
 
-/// A text of 0 to `limit` bytes, often just `limit`; where the version does not write it, also longer ones. What follows it is anything.
+/// A text of 0 to `limit` bytes, often just `limit`, and no zero among them: such a text is refused, and the Rust writes it, so it takes no part in
+/// the comparison. Where the version does not write it, also longer ones. What follows it is anything.
 fn text(r: &mut Random, piece: fn(&mut Random, usize) -> Vec<u8>, limit: usize, version: (u8, u8), since: (u8, u8)) -> Text {
 	let most = if version >= since { limit } else { 50 };
 	let len = r.pick(&[0, 1, limit, limit, most, limit / 2]);

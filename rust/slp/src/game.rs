@@ -43,7 +43,7 @@ pub struct Frames {
 	pub port_count: usize,
 }
 
-/// A text: the first `len` bytes.
+/// A text: the first `len` bytes. A zero among them is refused by a version that writes the text; what follows them is ignored.
 #[repr(C)]
 #[derive(Clone, Copy, Debug, PartialEq, Eq)]
 pub struct Text {

@@ -11,7 +11,7 @@ const WORDS: [&str; 18] = [
 	"presence bits do not match the frames",
 	"there are over four ports, a port above 3, or a port twice",
 	"the start block is too short for the version, or over 65,535 bytes",
-	"a start field is missing, or a player type or text is out of its limits",
+	"a start field is missing, a player type or text is out of its limits, or a text has a zero inside",
 	"cheat codes before 3.3, or not padded to blocks of 512 bytes",
 	"a double end without an end, or an initiator who is no player",
 	"the output is too short",

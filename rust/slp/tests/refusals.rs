@@ -29,6 +29,7 @@ fn frames() {
 fn the_rest() {
 	assert_eq!(refused(|m| m.block.truncate(759)), 8);
 	assert_eq!(refused(|m| m.game.start.is_pal.given = 0), 9);
+	assert_eq!(refused(|m| m.game.start.match_info.id = slp::Text::new(b"half\0half")), 9);
 	assert_eq!(refused(|m| (m.game.codes_given, m.game.actual_size) = (1, 1)), 10);
 	assert_eq!(refused(|m| m.game.end.initiator = 4), 11);
 	let made = Made::new();

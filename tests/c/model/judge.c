@@ -122,6 +122,12 @@ static int bad_ports(const slp_frames *f)
 	return 0;
 }
 
+/* Too long, or with a zero that a viewer would take for its end. */
+static int bad_text(const slp_text *t, size_t limit)
+{
+	return t->len > limit || memchr(t->bytes, 0, t->len);
+}
+
 static int bad_seat(slp_version v, const slp_seat *p)
 {
 	if (!p->given)
@@ -130,11 +136,11 @@ static int bad_seat(slp_version v, const slp_seat *p)
 		return 1;
 	if (reaches(v, 1, 0) && !p->ucf.given)
 		return 1;
-	if (reaches(v, 1, 3) && (!p->name_tag_given || p->name_tag.len > 16))
+	if (reaches(v, 1, 3) && (!p->name_tag_given || bad_text(&p->name_tag, 16)))
 		return 1;
-	if (reaches(v, 3, 9) && (!p->netplay.given || p->netplay.name.len > 30 || p->netplay.code.len > 9))
+	if (reaches(v, 3, 9) && (!p->netplay.given || bad_text(&p->netplay.name, 30) || bad_text(&p->netplay.code, 9)))
 		return 1;
-	return reaches(v, 3, 11) && (!p->netplay.suid_given || p->netplay.suid.len > 28);
+	return reaches(v, 3, 11) && (!p->netplay.suid_given || bad_text(&p->netplay.suid, 28));
 }
 
 static int bad_start(slp_version v, const slp_start *s)
@@ -144,7 +150,7 @@ static int bad_start(slp_version v, const slp_start *s)
 			return 1;
 	return (reaches(v, 1, 5) && !s->is_pal.given) || (reaches(v, 2, 0) && !s->is_frozen_ps.given) ||
 	       (reaches(v, 3, 7) && !s->scene.given) || (reaches(v, 3, 12) && !s->language.given) ||
-	       (reaches(v, 3, 14) && (!s->match_info.given || s->match_info.id.len > 50));
+	       (reaches(v, 3, 14) && (!s->match_info.given || bad_text(&s->match_info.id, 50)));
 }
 
 static int bad_codes(const input *in)

@@ -357,25 +357,63 @@ static slp_text *text_of(slp_start *s, size_t k)
 	return all[k];
 }
 
+/* Their limits, and the last versions that do not write them. */
+static const size_t text_limits[5] = { 50, 16, 30, 9, 28 };
+static const slp_version text_before[5] = { { 3, 13, 0 }, { 1, 2, 0 }, { 3, 8, 0 }, { 3, 8, 0 }, { 3, 10, 0 } };
+
 static void texts(void)
 {
-	static const size_t limits[5] = { 50, 16, 30, 9, 28 };
-	static const slp_version before[5] = { { 3, 13, 0 }, { 1, 2, 0 }, { 3, 8, 0 }, { 3, 8, 0 }, { 3, 10, 0 } };
 	static const size_t too_long[] = { 1, 100, (size_t)UINT32_MAX, SIZE_MAX / 2 };
 	for (size_t k = 0; k < 5; k++) {
 		plan p = { .version = { 3, 18, 0 }, .seats = 4 };
 		made m = make_game(&p);
 		slp_text *t = text_of(&m.in.game.start, k);
-		t->len = limits[k];
+		t->len = text_limits[k];
 		CHECK_EQ(answer(&m, ROOM), 0);
 		for (size_t i = 0; i < sizeof too_long / sizeof *too_long; i++) {
-			t->len = limits[k] + too_long[i];
+			t->len = text_limits[k] + too_long[i];
 			CHECK_EQ(answer(&m, ROOM), 9);
 		}
 		unmake(&m);
-		p.version = before[k];
+		p.version = text_before[k];
 		m = make_game(&p);
 		text_of(&m.in.game.start, k)->len = SIZE_MAX;
+		CHECK_EQ(answer(&m, ROOM), 0);
+		unmake(&m);
+	}
+}
+
+/* A zero at every byte of a text: refused among the counted ones, and nowhere after them. */
+static void check_zeros(made *m, slp_text *t, size_t len)
+{
+	t->len = len;
+	for (size_t at = 0; at < sizeof t->bytes; at++) {
+		uint8_t was = t->bytes[at];
+		t->bytes[at] = 0;
+		CHECK_EQ(answer(m, ROOM), at < len ? 9 : 0);
+		t->bytes[at] = was;
+	}
+}
+
+static void zeros_inside(void)
+{
+	for (size_t k = 0; k < 5; k++) {
+		plan p = { .version = { 3, 18, 0 }, .seats = 4 };
+		made m = make_game(&p);
+		slp_text *t = text_of(&m.in.game.start, k);
+		static const size_t lens[] = { 0, 1, 2 };
+		for (size_t i = 0; i < sizeof lens / sizeof *lens; i++)
+			check_zeros(&m, t, lens[i]);
+		check_zeros(&m, t, text_limits[k] / 2);
+		check_zeros(&m, t, text_limits[k]);
+		t->bytes[0] = 0;
+		CHECK_EQ(answer(&m, ROOM), 9);
+		m.in.game.start.seats[1].given = 0;
+		CHECK_EQ(answer(&m, ROOM), k ? 0 : 9);
+		unmake(&m);
+		p.version = text_before[k];
+		m = make_game(&p);
+		memset(text_of(&m.in.game.start, k)->bytes, 0, sizeof t->bytes);
 		CHECK_EQ(answer(&m, ROOM), 0);
 		unmake(&m);
 	}
@@ -594,6 +632,7 @@ int main(int argc, char **argv)
 	test("8: blocks", blocks);
 	test("9: marks", marks);
 	test("9: texts", texts);
+	test("9: zeros inside a text", zeros_inside);
 	test("9: players", players);
 	test("10: codes", codes);
 	test("11: ends", ends);

@@ -63,9 +63,10 @@ static void damage_seat(slp_seat *s)
 	slp_text *texts[4] = { &s->name_tag, &s->netplay.name, &s->netplay.code, &s->netplay.suid };
 	slp_text *t = texts[below(4)];
 	uint8_t *marks[6] = { &s->given, &s->cpu_level.given, &s->ucf.given, &s->name_tag_given, &s->netplay.given, &s->netplay.suid_given };
-	switch (below(3)) {
+	switch (below(4)) {
 	case 0: t->len = odd_number(t->len); break;
-	case 1: s->kind = (uint8_t)below(5); break;
+	case 1: t->bytes[below(sizeof t->bytes)] = 0; break;
+	case 2: s->kind = (uint8_t)below(5); break;
 	default: *marks[below(6)] = (uint8_t)below(2); break;
 	}
 }
@@ -74,9 +75,10 @@ static void damage_start(made *m)
 {
 	slp_start *s = &m->in.game.start;
 	uint8_t *marks[5] = { &s->is_pal.given, &s->is_frozen_ps.given, &s->scene.given, &s->language.given, &s->match_info.given };
-	switch (below(3)) {
+	switch (below(4)) {
 	case 0: *marks[below(5)] = 0; break;
 	case 1: s->match_info.id.len = odd_number(s->match_info.id.len); break;
+	case 2: s->match_info.id.bytes[below(sizeof s->match_info.id.bytes)] = 0; break;
 	default: damage_seat(&s->seats[below(4)]); break;
 	}
 }

@@ -113,9 +113,12 @@ static uint8_t yes(void)
 	return (uint8_t)(1 + below(255));
 }
 
+/* No zero as far as the limit, anything after that. */
 static void make_text(slp_text *t, size_t limit)
 {
 	draw_bytes(t->bytes, sizeof t->bytes);
+	for (size_t i = 0; i < limit; i++)
+		t->bytes[i] = t->bytes[i] ? t->bytes[i] : yes();
 	t->len = below(4) ? below(limit + 1) : limit;
 }
 

@@ -2,14 +2,14 @@
 -- Assumes nothing.
 use native.Mathlib.Omega.{arith}
 use borrow.Author.Needs.{needs}
-use Rattle.patch.proofs.Patches.{wrote-filled}
+use Rattle.patch.proofs.Viewed.{field-filled}
 use Rattle.patch.proofs.put_filled.Statement.{statement}
 use Rattle.patch.proofs.put_filled.Tie as tie
 
 returns : tie.Need-returns
 returns c =
     let first = c .before .before .before .before .before .before .before in
-    wrote-filled _ _ 51 (omega arith) (first .put-first .ensures .0) (c .before .before .put-first2 .ensures .0)
+    field-filled _ _ 51 (omega arith) (omega arith) (omega arith) (omega arith) (first .put-first .ensures .0) (c .before .before .put-first2 .ensures .0)
 
 pub put-filled-spec : {M : Type 1} → statement M
 put-filled-spec =

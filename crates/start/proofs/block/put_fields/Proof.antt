@@ -16,7 +16,9 @@ put-seats-requires : tie.Need-put-seats-requires
 put-seats-requires c κs = (omega arith, good-start _ _ (c .before .before .before .before .before .before .before .pre .1) .0)
 
 put-match-requires : tie.Need-put-match-requires
-put-match-requires c κs = (omega arith, good-start _ _ (c .before .before .before .before .before .before .before .before .before .before .before .before .before .before .before .pre .1) .1)
+put-match-requires c κs =
+    let good = good-start _ _ (c .before .before .before .before .before .before .before .before .before .before .before .before .before .before .before .pre .1) in
+    (omega arith, good .1, good .2)
 
 returns : tie.Need-returns
 unfolding fields

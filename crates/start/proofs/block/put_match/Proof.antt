@@ -8,14 +8,15 @@ use Rattle.start.specs.Gate.{matchFrom}
 use Rattle.start.specs.Block.{matchFields}
 use Rattle.start.proofs.Lengths.{long-enough}
 use Rattle.patch.proofs.Patches.{patched-then, patched-one, patched-on, patched-off}
-use Rattle.start.proofs.Refusals.{short-text}
+use Rattle.start.proofs.Refusals.{short-text, clean-text}
 use Rattle.start.proofs.block.put_match.Statement.{statement}
 use Rattle.start.proofs.block.put_match.Tie as tie
 
 put-match-id-requires : tie.Need-put-match-id-requires
 put-match-id-requires c κs =
     let on = sym (c .before .before .reached .ensures) ∙ c .before .if1 .taken in
-    (short-text _ matchFrom 50 _ (c .before .before .before .before .pre .1) on, omega (arith, long-enough _ 0 on))
+    let pre = c .before .before .before .before .pre in
+    (short-text _ matchFrom 50 _ (pre .1) on, omega (arith, long-enough _ 0 on), clean-text _ matchFrom _ (pre .2) on)
 
 put-u32-requires : tie.Need-put-u32-requires
 put-u32-requires c κs =
@@ -32,7 +33,7 @@ unfolding matchFields
 returns c =
     let c1 = c .before .before .before .before .before .before .before .before .before .before in
     patched-on _ _ (c1 .before .before .before .reached .ensures) (c1 .before .before .if1 .taken)
-    (patched-then (c1 .put-match-id .ensures)
+    (patched-then (c1 .put-match-id .ensures .0)
     (patched-then (patched-one (c .before .before .before .before .before .before .put-u32 .ensures)) (patched-one (c .before .before .put-u322 .ensures))))
 
 returns-2 : tie.Need-returns-2

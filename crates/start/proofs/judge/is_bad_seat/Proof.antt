@@ -14,4 +14,5 @@ is-bad-seat-spec =
     (λ c. search given-off) (λ c κs. search needs) (λ c. search (given-on, tests) depth 9)
     (λ c. search (given-on, tests) depth 9)
     (λ c κs. search needs) (λ c. search (given-on, tests) depth 9)
+    (λ c κs. search needs) (λ c. search (given-on, tests) depth 9)
     (λ c κs. search needs) (λ c. search (given-on, tests) depth 9))

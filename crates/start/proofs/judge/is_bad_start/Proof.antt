@@ -17,4 +17,5 @@ is-bad-start-spec =
     (λ c κs. search needs) (λ c. search tests depth 9)
     (λ c κs. search needs) (λ c. search tests depth 9)
     (λ c κs. search needs) (λ c. search tests depth 9)
+    (λ c κs. search needs) (λ c. search tests depth 9)
     (λ c κs. search needs) (λ c. search tests depth 9))

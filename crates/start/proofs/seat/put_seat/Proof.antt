@@ -11,7 +11,8 @@ use Rattle.start.proofs.seat.put_seat.Tie as tie
 put-port-requires : tie.Need-put-port-requires
 put-port-requires c κs =
     let s = c .before .before .before .before in
-    (s .pre .0, s .pre .1, seat-texts _ _ (s .pre .2) (a-mark _ (c .before .if1 .taken)))
+    let (short, clean) = seat-texts _ _ (s .pre .2) (a-mark _ (c .before .if1 .taken)) in
+    (s .pre .0, s .pre .1, short, clean)
 
 returns : tie.Need-returns
 returns c = patched-on _ _ (sym (a-mark _ (c .before .before .before .before .if1 .taken))) refl (c .before .before .put-port .ensures)
