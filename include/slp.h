@@ -503,9 +503,10 @@ static inline slp_written slp_write_game(uint8_t *out, size_t out_len, const slp
 
 /* ======== rows ========
  *
- * One record of a game as a struct with named fields. Fields that the version lacks are 0. Presence is not looked at. `bits` has the record's
- * cells as they are, in the order of its columns: a float field is the float of its cell, and all patterns of a NaN are one NaN there, so look
- * into `bits` for the pattern. Each call judges all stores, as slp_write does, and then reads one record. */
+ * One record of a game as a struct with named fields. Fields that the version lacks are 0. `bits` has the record's cells as they are, in the order
+ * of its columns: a float field is the float of its cell, and all patterns of a NaN are one NaN there, so look into `bits` for the pattern.
+ * A player's row says whether the player is in the frame: `present` is 1 or 0 by the presence bit. The values of an absent player are those that the
+ * stores have for it. Each call judges all stores, as slp_write does, and then reads one record. */
 
 typedef struct {
 	float x, y;
@@ -525,6 +526,7 @@ typedef struct {
 
 typedef struct {
 	slp_version version;
+	uint8_t present;              /* 1 or 0 */
 	uint32_t bits[32];
 	uint32_t random_seed;
 	uint16_t state;
@@ -544,6 +546,7 @@ typedef struct {
 
 typedef struct {
 	slp_version version;
+	uint8_t present;                 /* 1 or 0 */
 	uint32_t bits[32];
 	uint8_t character;
 	uint16_t state;
@@ -613,6 +616,7 @@ typedef struct {
 } slp_stadium_transformation;
 
 typedef struct {
+	uint8_t present;   /* 1 or 0, as in both rows */
 	slp_pre pre;
 	slp_post post;
 } slp_data;
@@ -621,7 +625,7 @@ typedef struct {
 	uint8_t port;
 	uint8_t follower_given;   /* 1 or 0 */
 	slp_data leader;
-	slp_data follower;        /* all 0 where there is none */
+	slp_data follower;        /* absent, all 0, where there is none */
 } slp_port_data;
 
 /* Which rows of a family a frame has: 0 and 0 where the version lacks the family. */

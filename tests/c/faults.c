@@ -205,6 +205,10 @@ slp_frame_answer slp_frame_row(slp_frames frames, SLP_STORE_PARAMETERS, size_t i
 		a.row.ports[0].follower.post.stocks |= !a.row.ports[0].follower_given;
 	if (faulty("frame-ports") && a.row.port_count < 4)
 		a.row.ports[3].leader.pre.version.major = 3;
+	if (faulty("frame-mark") && a.row.port_count)
+		a.row.ports[0].follower.present = a.row.ports[0].follower.pre.present = a.row.ports[0].follower.post.present = a.row.ports[0].leader.present;
+	if (faulty("frame-marks"))
+		a.row.ports[1].leader.post.present ^= a.row.port_count > 1;
 	if (faulty("frame-range"))
 		a.row.stadium_transformations.first++;
 	if (faulty("frame-refused"))
@@ -219,6 +223,8 @@ slp_post_answer slp_post_row(slp_frames frames, SLP_STORE_PARAMETERS, size_t slo
 	slp_post_answer a = real_slp_post_row(frames, STORES, slot, index);
 	if (faulty("post-bits"))
 		a.row.bits[31] ^= !a.refused && frames.version.minor == 15;
+	if (faulty("post-mark"))
+		a.row.present |= !a.refused && slot == 1;
 	if (faulty("post-float"))
 		a.row.hitlag = -a.row.hitlag;
 	if (faulty("post-slot") && slot > 6)

@@ -64,11 +64,11 @@ module _ (raw : List ℕ) (cell : ℕ → ℕ) (is : (k : ℕ) → getD raw k 0 
   each (k ∷ ks) = (one k, each ks)
 
   module _ (v : Version) where
-    pub pre-exact : Exact (preFloats (preOf raw v)) (map cell preColumns)
-    pre-exact = each preColumns
+    pub pre-exact : (present : ℕ) → Exact (preFloats (preOf raw v present)) (map cell preColumns)
+    pre-exact present = each preColumns
 
-    pub post-exact : Exact (postFloats (postOf raw v)) (map cell postColumns)
-    post-exact = each postColumns
+    pub post-exact : (present : ℕ) → Exact (postFloats (postOf raw v present)) (map cell postColumns)
+    post-exact present = each postColumns
 
     pub item-exact : Exact (itemFloats (itemOf raw v)) (map cell itemColumns)
     item-exact = each itemColumns

@@ -17,9 +17,11 @@ use Rattle.rows.specs.declared.small.FodPlatform.{FodPlatform}
 use Rattle.rows.specs.declared.small.DreamlandWhispy.{DreamlandWhispy}
 use Rattle.rows.specs.declared.small.StadiumTransformation.{StadiumTransformation}
 
-abbrev pub preOf : List ℕ → Version → Pre
-preOf raw v = record {
+-- of a player also whether it is in the frame: 1, or 0
+abbrev pub preOf : List ℕ → Version → ℕ → Pre
+preOf raw v present = record {
   version = v;
+  present = present;
   bits = raw;
   «random_seed» = getD raw 0 0;
   state = getD raw 1 0;
@@ -38,9 +40,10 @@ preOf raw v = record {
   «raw_analog_cstick_y» = toZ w8 (getD raw 18 0);
 }
 
-abbrev pub postOf : List ℕ → Version → Post
-postOf raw v = record {
+abbrev pub postOf : List ℕ → Version → ℕ → Post
+postOf raw v present = record {
   version = v;
+  present = present;
   bits = raw;
   character = getD raw 0 0;
   state = getD raw 1 0;
@@ -99,7 +102,7 @@ dreamlandWhispyOf raw v = record { version = v; bits = raw; direction = getD raw
 abbrev pub stadiumTransformationOf : List ℕ → Version → StadiumTransformation
 stadiumTransformationOf raw v = record { version = v; bits = raw; event = getD raw 0 0; «type_id» = getD raw 1 0 }
 
--- ---- the rows that stand for none: all zero
+-- ---- the rows that stand for none: all zero, and absent
 
 abbrev pub noCells : List ℕ
 noCells = replicate 32 0
@@ -108,10 +111,10 @@ abbrev pub noVersion : Version
 noVersion = version 0 0 0
 
 abbrev pub noPre : Pre
-noPre = preOf noCells noVersion
+noPre = preOf noCells noVersion 0
 
 abbrev pub noPost : Post
-noPost = postOf noCells noVersion
+noPost = postOf noCells noVersion 0
 
 abbrev pub noItem : Item
 noItem = itemOf noCells noVersion

@@ -1,4 +1,4 @@
-// The row of a Post record.
+// The row of a Post record, with the mark of its player: 1 where it is in the frame, and 0 where it is not.
 ghost use mathlib.Core.Path.{_≡_};
 ghost use Rattle.layout.specs.declared.columns.Family.the-variants as family;
 ghost use Rattle.rows.specs.Inner.{Within};
@@ -14,6 +14,7 @@ use format::version::Version;
 #[repr(C)]
 pub struct Post {
     pub version: Version,
+    pub present: u8,
     pub bits: [u32; 32],
     pub character: u8,
     pub state: u16,
@@ -40,12 +41,13 @@ pub struct Post {
     pub instance_id: u16,
 }
 
-pub fn post_of(raw: [u32; 32], version: Version) -> Post
+pub fn post_of(raw: [u32; 32], version: Version, present: u8) -> Post
     requires { ⌜ Within family.Post raw ⌝ }
-    ensures { λ r. ⌜ r ≡ postOf raw version ⌝ }
+    ensures { λ r. ⌜ r ≡ postOf raw version present ⌝ }
 {
     Post {
         version,
+        present,
         bits: raw,
         character: raw[0] as u8,
         state: raw[1] as u16,

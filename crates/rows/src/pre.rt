@@ -1,4 +1,4 @@
-// The row of a Pre record.
+// The row of a Pre record, with the mark of its player: 1 where it is in the frame, and 0 where it is not.
 ghost use mathlib.Core.Path.{_≡_};
 ghost use Rattle.layout.specs.declared.columns.Family.the-variants as family;
 ghost use Rattle.rows.specs.Inner.{Within};
@@ -14,6 +14,7 @@ use format::version::Version;
 #[repr(C)]
 pub struct Pre {
     pub version: Version,
+    pub present: u8,
     pub bits: [u32; 32],
     pub random_seed: u32,
     pub state: u16,
@@ -32,12 +33,13 @@ pub struct Pre {
     pub raw_analog_cstick_y: i8,
 }
 
-pub fn pre_of(raw: [u32; 32], version: Version) -> Pre
+pub fn pre_of(raw: [u32; 32], version: Version, present: u8) -> Pre
     requires { ⌜ Within family.Pre raw ⌝ }
-    ensures { λ r. ⌜ r ≡ preOf raw version ⌝ }
+    ensures { λ r. ⌜ r ≡ preOf raw version present ⌝ }
 {
     Pre {
         version,
+        present,
         bits: raw,
         random_seed: raw[0],
         state: raw[1] as u16,

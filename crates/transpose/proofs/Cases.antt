@@ -17,13 +17,14 @@ use Rattle.layout.specs.declared.columns.Family.the-variants as family
 use Rattle.game.specs.Frames.{portsOf, portSlots, portBytes, slotsFrom, slotsOf}
 use Rattle.game.specs.Stores.{Lent, cells, offsets, lent}
 use Rattle.frames.specs.Judge.{tooMany, misfits, storesMisfit, columnsExceed, blocksExceed, exceeds, cellsExceed, falls, strays, leftOver, misleads, offsetsMislead, portNumbers, twice, portsWrong, refusals}
-use Rattle.players.specs.Presence.{uneven, portUneven, portsUneven, presenceWrong}
+use Rattle.players.specs.Presence.{marked, uneven, portUneven, portsUneven, presenceWrong}
 use Rattle.game.specs.declared.frames.PortColumn.{PortColumn}
 use Rattle.game.specs.declared.frames.Frames.{Frames}
 use Rattle.rows.specs.Cells.{firstCells}
 use Rattle.rows.specs.Parts.{float, positionOf, velocityOf, triggersOf, miscOf}
 use Rattle.rows.specs.Rows.{preOf, itemOf}
 use Rattle.transpose.specs.Judge.{outside, rowRefusal}
+use Rattle.transpose.specs.Records.{markAt}
 use Rattle.transpose.specs.Ports.{portAt}
 use Rattle.transpose.specs.Frame.{rangeAt}
 use Rattle.transpose.specs.Answers.{unlessRefused, preAnswer, preRow, postRow, itemAnswer, itemRow, stadiumTransformationRow, frameRow}
@@ -133,7 +134,7 @@ data Ask : Type 0 where
   stadium : ℕ → Ask
   frame : ℕ → Ask
 
--- an answer as numbers: the refusal's, then the row's version and cells
+-- an answer as numbers: the refusal's, then the row's version and cells; of a player also its mark, before the cells
 abbrev numbers : ℕ → Version → List ℕ → List ℕ
 numbers refused v bits = refused ∷ v .major ∷ v .minor ∷ v .patch ∷ bits
 
@@ -141,9 +142,10 @@ abbrev idBits : ℤ → ℕ
 idBits (pos n) = n
 idBits (negsuc n) = 0xffff_ffff - n
 
--- of a frame: its id's bits, its ports, the first cells of its start and end, the range of its items and of a family without rows
+-- of a frame: its id's bits, its ports with the marks of both players, the first cells of its start and end, the range of its items and of a family without rows
 abbrev portNumbersOf : PortData → List ℕ
-portNumbersOf p = p .port ∷ p .«follower_given» ∷ getD (p .leader .pre .bits) 0 0 ∷ getD (p .follower .post .bits) 0 0 ∷ []
+portNumbersOf p =
+    p .port ∷ p .«follower_given» ∷ p .leader .present ∷ getD (p .leader .pre .bits) 0 0 ∷ p .follower .present ∷ getD (p .follower .post .bits) 0 0 ∷ []
 
 joined : List (List ℕ) → List ℕ
 joined [] = []
@@ -156,8 +158,8 @@ frameNumbers r =
     ∷ joined (map portNumbersOf (r .ports))
 
 shown : Frames → Lent → Ask → List ℕ
-shown f s (pre slot index) = let r = preRow f s slot index in numbers (r .refused) (r .row .version) (r .row .bits)
-shown f s (post slot index) = let r = postRow f s slot index in numbers (r .refused) (r .row .version) (r .row .bits)
+shown f s (pre slot index) = let r = preRow f s slot index in numbers (r .refused) (r .row .version) (r .row .present ∷ r .row .bits)
+shown f s (post slot index) = let r = postRow f s slot index in numbers (r .refused) (r .row .version) (r .row .present ∷ r .row .bits)
 shown f s (item index) = let r = itemRow f s index in numbers (r .refused) (r .row .version) (r .row .bits)
 shown f s (stadium index) = let r = stadiumTransformationRow f s index in numbers (r .refused) (r .row .version) (r .row .bits)
 shown f s (frame index) = let r = frameRow f s index in numbers (r .refused) (r .row .version) (frameNumbers (r .row))
@@ -219,6 +221,7 @@ early = record {
   refused = 0;
   row = record {
     version = version 1 2 0;
+    present = 1;
     bits = earlyCells;
     «random_seed» = 1;
     state = 3;
@@ -238,36 +241,37 @@ early = record {
   };
 }
 
--- the refusals are of a slot and a frame that are not there, an item that is not there, a family that the version lacks, and a version above 3.18.0;
+-- the second is of the player of port 3, who is absent: the values are the stores'. The refusals are of a slot and a frame that are not there, an item that is not there, a family that the version lacks, and a version above 3.18.0;
 -- the frame is the second at 3.7: id -122, three players, the start's seed, the end's frame -1, and the last two of the three items
 others : List Case
 others =
-    plain (version 1 2 0) (pre 0 0) (numbers 0 (version 1 2 0) earlyCells)
+    plain (version 1 2 0) (pre 0 0) (numbers 0 (version 1 2 0) (1 ∷ earlyCells))
+    ∷ plain (version 1 2 0) (pre 2 1) (numbers 0 (version 1 2 0) (0 ∷ twos 62 15 ++ zeros 17))
     ∷ case (version 3 6 0) 3 items (0 ∷ 1 ∷ 3 ∷ []) (item 1) (numbers 0 (version 3 6 0) secondCells)
-    ∷ plain (version 0 1 0) (pre 3 1) (none 13 32)
-    ∷ plain (version 0 1 0) (pre 2 2) (none 13 32)
+    ∷ plain (version 0 1 0) (pre 3 1) (none 13 33)
+    ∷ plain (version 0 1 0) (pre 2 2) (none 13 33)
     ∷ case (version 3 6 0) 3 items (0 ∷ 1 ∷ 3 ∷ []) (item 3) (none 13 32)
     ∷ plain (version 2 0 0) (item 0) (none 13 32)
     ∷ plain (version 3 18 0) (stadium 0) (none 13 32)
-    ∷ plain (version 3 18 1) (pre 0 0) (none 1 32)
-    ∷ plain (version 0 1 0) (frame 2) (none 13 24)
-    ∷ plain (version 3 18 1) (frame 2) (none 1 24)
+    ∷ plain (version 3 18 1) (pre 0 0) (none 1 33)
+    ∷ plain (version 0 1 0) (frame 2) (none 13 32)
+    ∷ plain (version 3 18 1) (frame 2) (none 1 32)
     ∷ case (version 3 7 0) 3 (zeros 45) (0 ∷ 1 ∷ 3 ∷ []) (frame 1)
     (numbers 0 (version 3 7 0)
-    (0xffff_ff86 ∷ 2 ∷ 2 ∷ 0xffff_ffff ∷ 1 ∷ 2 ∷ 0 ∷ 0 ∷ 1 ∷ 1 ∷ 2 ∷ 58 ∷ 3 ∷ 0 ∷ 66 ∷ 0 ∷ zeros 8))
+    (0xffff_ff86 ∷ 2 ∷ 2 ∷ 0xffff_ffff ∷ 1 ∷ 2 ∷ 0 ∷ 0 ∷ 1 ∷ 1 ∷ 1 ∷ 2 ∷ 1 ∷ 58 ∷ 3 ∷ 0 ∷ 0 ∷ 66 ∷ 0 ∷ 0 ∷ zeros 12))
     ∷ []
 
 cases : List Case
 cases =
-    map (λ (r : Row). plain (r .version) (pre 1 1) (numbers 0 (r .version) (bitsOf r))) pres
-    ++ (map (λ (r : Row). plain (r .version) (post 1 1) (numbers 0 (r .version) (bitsOf r))) posts ++ others)
+    map (λ (r : Row). plain (r .version) (pre 1 1) (numbers 0 (r .version) (1 ∷ bitsOf r))) pres
+    ++ (map (λ (r : Row). plain (r .version) (post 1 1) (numbers 0 (r .version) (1 ∷ bitsOf r))) posts ++ others)
 
 computed : map (λ (c : Case). shown (game (c .version) (c .count)) (stores (c .version) (c .cells) (c .offsets)) (c .ask)) cases ≡ map (λ (c : Case). c .answer) cases
-unfolding cases pres posts twos others joined shown unlessRefused rowRefusal outside firstCells portAt rangeAt lowest refusals acceptedOf above gteOf columnsOf chosen sum hasFamily keep tabulate portsOf portSlots portBytes slotsFrom slotsOf oneOf tooMany misfits storesMisfit columnsExceed blocksExceed exceeds cellsExceed falls strays leftOver misleads offsetsMislead uneven portUneven portsUneven presenceWrong portNumbers twice portsWrong up
+unfolding cases pres posts twos others joined shown unlessRefused rowRefusal outside markAt marked firstCells portAt rangeAt lowest refusals acceptedOf above gteOf columnsOf chosen sum hasFamily keep tabulate portsOf portSlots portBytes slotsFrom slotsOf oneOf tooMany misfits storesMisfit columnsExceed blocksExceed exceeds cellsExceed falls strays leftOver misleads offsetsMislead uneven portUneven portsUneven presenceWrong portNumbers twice portsWrong up
 computed = refl
 
--- the whole rows of the first two of the others
-whole-pre : preAnswer 0 (preOf earlyCells (version 1 2 0)) ≡ early
+-- the whole rows of the first and the third of the others
+whole-pre : preAnswer 0 (preOf earlyCells (version 1 2 0) 1) ≡ early
 whole-pre = refl
 
 whole-item : itemAnswer 0 (itemOf secondCells (version 3 6 0)) ≡ second

@@ -21,7 +21,7 @@ use Rattle.game.specs.declared.frames.Frames.{Frames}
 use Rattle.rows.specs.Rows.{preOf, noPre, postOf, noPost, itemOf, noItem}
 use Rattle.rows.proofs.Records.{first-each}
 use Rattle.rows.proofs.Exact.{Exact, preFloats, preColumns, pre-exact, postFloats, postColumns, post-exact, itemFloats, itemColumns, item-exact}
-use Rattle.transpose.specs.Records.{cellsAt}
+use Rattle.transpose.specs.Records.{cellsAt, markAt}
 use Rattle.transpose.specs.Inner.{Reachable}
 use Rattle.transpose.specs.Answers.{preRow, postRow, itemRow}
 use Rattle.transpose.proofs.Judged.{reachable}
@@ -58,14 +58,16 @@ module _ (f : Frames) (s : Lent) (slot index : ℕ) where
   pre-floats e =
       let h = reachable f s Pre slot index e in
       let raw = cellsAt f Pre (s .cells .pres) slot index in
-      rw (← given-row _ (preOf raw (f .version)) noPre e) (pre-exact raw (lentCell f Pre (s .cells .pres) slot index) (cell-is h) (cell-fits h) (f .version))
+      let mark = markAt f (s .presence) slot index in
+      rw (← given-row _ (preOf raw (f .version) mark) noPre e) (pre-exact raw (lentCell f Pre (s .cells .pres) slot index) (cell-is h) (cell-fits h) (f .version) mark)
 
   pub post-floats : postRow f s slot index .refused ≡ 0
       → Exact (postFloats (postRow f s slot index .row)) (map (lentCell f Post (s .cells .posts) slot index) postColumns)
   post-floats e =
       let h = reachable f s Post slot index e in
       let raw = cellsAt f Post (s .cells .posts) slot index in
-      rw (← given-row _ (postOf raw (f .version)) noPost e) (post-exact raw (lentCell f Post (s .cells .posts) slot index) (cell-is h) (cell-fits h) (f .version))
+      let mark = markAt f (s .presence) slot index in
+      rw (← given-row _ (postOf raw (f .version) mark) noPost e) (post-exact raw (lentCell f Post (s .cells .posts) slot index) (cell-is h) (cell-fits h) (f .version) mark)
 
 module _ (f : Frames) (s : Lent) (index : ℕ) where
   pub item-floats : itemRow f s index .refused ≡ 0

@@ -7,19 +7,20 @@ use Prim.Native.Nat.{ℕ, zero, suc, _<_}
 use native.Mathlib.Omega.{arith}
 use borrow.Author.Tests.{leb-false}
 use lib.Dec.{leb, lit<}
+use lib.ListN.{length}
 use Rattle.format.specs.Refusal.{Refusal, refuse, lowest}
 use Rattle.format.proofs.Refusals.{passed, lowest-before, lowest-after, lowest-first}
 use Rattle.format.proofs.Tests.{or-none}
 use Rattle.layout.specs.declared.columns.Family.{Family}
 use Rattle.layout.specs.declared.columns.Family.the-variants.{Pre, Post, FrameStart, FrameEnd}
 use Rattle.frames.specs.Inner.{Accepted}
-use Rattle.game.specs.Frames.{rowsOf, slotBlocks}
+use Rattle.game.specs.Frames.{rowsOf, slotsOf, slotBlocks}
 use Rattle.frames.specs.Judge.{refusals}
 use Rattle.game.specs.Stores.{Lent, cellsOf}
 use Rattle.game.specs.declared.frames.Frames.{Frames}
 use Rattle.frames.proofs.Accepted.{numbered, accepted}
 use Rattle.transpose.specs.Judge.{outside, rowRefusal}
-use Rattle.transpose.specs.Inner.{Reachable, Showable, placeRefusal}
+use Rattle.transpose.specs.Inner.{Reachable, Attending, Showable, placeRefusal}
 use Rattle.transpose.specs.Answers.{unlessRefused}
 
 module _ (f : Frames) (s : Lent) (family : Family) (block row : ℕ) where
@@ -63,6 +64,9 @@ module _ (f : Frames) (s : Lent) (family : Family) (block row : ℕ) where
     pub reachable : Reachable f family (cellsOf (s .cells) family) block row
     reachable = record { store = row-accepted .stores family; block-in = inside .0; row-in = inside .1 }
 
+    pub attending : slotBlocks f family ≡ length (slotsOf f) → Attending f block
+    attending e′ = record { modest = row-accepted .modest; even = row-accepted .presence .even; slot-in = omega (arith, inside .0, e′) }
+
 -- all of a frame is there
 pub showable : (f : Frames) (s : Lent) (index : ℕ) → rowRefusal f s FrameStart 0 index ≡ 0
     → Showable f (s .cells .ids) (s .cells .starts) (s .cells .pres) (s .cells .posts) (s .cells .ends) (s .offsets) index
@@ -73,7 +77,7 @@ showable f s index e =
       ids-fit = a .ids;
       start = r;
       end = record { store = a .stores FrameEnd; block-in = lit< tt; row-in = r .row-in };
-      players = record { pre = a .stores Pre; post = a .stores Post; frame = r .row-in };
+      players = record { pre = a .stores Pre; post = a .stores Post; frame = r .row-in; modest = a .modest; even = a .presence .even };
       items = a .items;
       fods = a .fods;
       whispys = a .whispys;

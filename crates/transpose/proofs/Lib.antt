@@ -1,5 +1,6 @@
 pub mod Judged
 pub mod Shown
+pub mod Marks
 pub mod Reach
 pub mod Slotting
 pub mod Only

@@ -32,11 +32,20 @@ unfolding unlessRefused
 row-shown of zero cells version a b = ap₂ of a b
 row-shown of (suc n) cells version a b = ap₂ of a b
 
--- a player
-pub data-shown : (n : ℕ) (a b : Data) → record { pre = unlessRefused n (a .pre) (b .pre); post = unlessRefused n (a .post) (b .post) } ≡ unlessRefused n a b
+-- a row beside a mark that is 0 where something is refused
+pub mark-shown : {A : Type 0} (row none : ℕ → A) (n mark : ℕ) {m : ℕ} → m ≡ unlessRefused n mark 0
+    → unlessRefused n (row m) (none m) ≡ unlessRefused n (row mark) (none 0)
 unfolding unlessRefused
-data-shown zero a b = refl
-data-shown (suc n) a b = refl
+mark-shown row none zero mark e = ap row e
+mark-shown row none (suc n) mark e = ap none e
+
+-- a player
+pub data-shown : (n mark : ℕ) (pre no-pre : Pre) (post no-post : Post)
+    → record { present = mark; pre = unlessRefused n pre no-pre; post = unlessRefused n post no-post }
+    ≡ unlessRefused {A = Data} n (record { present = mark; pre = pre; post = post }) (record { present = mark; pre = no-pre; post = no-post })
+unfolding unlessRefused
+data-shown zero mark pre no-pre post no-post = refl
+data-shown (suc n) mark pre no-pre post no-post = refl
 
 -- four of anything
 pub four-shown : {A : Type 0} (n : ℕ) (a b c d none : A)

@@ -14,7 +14,7 @@ use Rattle.players.proofs.SlotLaws.{leader-slot, follower-slot}
 use Rattle.game.specs.declared.frames.Frames.{Frames}
 use Rattle.game.specs.declared.frames.PortColumn.{PortColumn}
 use Rattle.transpose.specs.Ports.{noData, dataAt, noPortData, portOf, portAt}
-use Rattle.transpose.specs.Inner.{Playing, Played, Seated, noSeat, seatOf, seatAt}
+use Rattle.transpose.specs.Inner.{Attending, Playing, Played, Seated, noSeat, seatOf, seatAt}
 use Rattle.transpose.specs.Answers.{unlessRefused}
 use Rattle.transpose.specs.declared.frame.PortData.{PortData}
 use Rattle.transpose.specs.declared.ports.Seat.{Seat}
@@ -25,6 +25,9 @@ playing slot h l = record {
   pre = record { store = h .pre; block-in = l; row-in = h .frame };
   post = record { store = h .post; block-in = l; row-in = h .frame };
 }
+
+pub attends : {f : Frames} {pres posts : List ℕ} {index : ℕ} (slot : ℕ) → Played f pres posts index → slot < length (slotsOf f) → Attending f slot
+attends slot h l = record { modest = h .modest; even = h .even; slot-in = l }
 
 -- ---- where a port column's players are
 module _ (f : Frames) (k n : ℕ) where
@@ -64,26 +67,26 @@ module _ (f : Frames) (k n : ℕ) where
             record { is = same ∙ there; leader = λ _. (z, omega (arith, leader-slot f k p h e, s)); follower = λ w. absent w }
 
 -- ---- a port column's players
-module _ (f : Frames) (pres posts : List ℕ) (index : ℕ) where
+module _ (f : Frames) (pres posts presence : List ℕ) (index : ℕ) where
   abbrev pub portFrom : Seat → PortData
   portFrom s = record {
     port = s .port;
     «follower_given» = s .given;
-    leader = unlessRefused (s .«no_leader») (dataAt f pres posts (s .slot) index) noData;
-    follower = unlessRefused (s .«no_follower») (dataAt f pres posts (s .second) index) noData;
+    leader = unlessRefused (s .«no_leader») (dataAt f pres posts presence (s .slot) index) noData;
+    follower = unlessRefused (s .«no_follower») (dataAt f pres posts presence (s .second) index) noData;
   }
 
-  both-or-one : (p : PortColumn) (slot : ℕ) (t : Bool) → follows p ≡ t → portFrom (seatOf p slot) ≡ portOf f pres posts index p slot
+  both-or-one : (p : PortColumn) (slot : ℕ) (t : Bool) → follows p ≡ t → portFrom (seatOf p slot) ≡ portOf f pres posts presence index p slot
   unfolding unlessRefused
   both-or-one p slot true e = rw e
   both-or-one p slot false e = rw e
 
-  some-or-none : (b : Bool) (p : PortColumn) (slot : ℕ) → portFrom (cond b (seatOf p slot) noSeat) ≡ cond b (portOf f pres posts index p slot) noPortData
+  some-or-none : (b : Bool) (p : PortColumn) (slot : ℕ) → portFrom (cond b (seatOf p slot) noSeat) ≡ cond b (portOf f pres posts presence index p slot) noPortData
   unfolding unlessRefused
   some-or-none true p slot = both-or-one p slot (follows p) refl
   some-or-none false p slot = refl
 
-  pub port-shown : (k n : ℕ) → portFrom (seatAt f k n) ≡ unlessRefused n (portAt f pres posts index k) noPortData
+  pub port-shown : (k n : ℕ) → portFrom (seatAt f k n) ≡ unlessRefused n (portAt f pres posts presence index k) noPortData
   unfolding seatAt portAt unlessRefused
   port-shown k zero = some-or-none (ltb k (length (portsOf f))) (getD (portsOf f) k noPort) (slotsBefore f k)
   port-shown k (suc n) = refl

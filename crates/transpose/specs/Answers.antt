@@ -7,7 +7,7 @@ use Rattle.game.specs.declared.frames.Frames.{Frames}
 use Rattle.rows.specs.Rows.{preOf, noPre, postOf, noPost, itemOf, noItem}
 use Rattle.rows.specs.Rows.{fodPlatformOf, noFodPlatform, dreamlandWhispyOf, noDreamlandWhispy, stadiumTransformationOf, noStadiumTransformation}
 use Rattle.transpose.specs.Judge.{rowRefusal}
-use Rattle.transpose.specs.Records.{cellsAt}
+use Rattle.transpose.specs.Records.{cellsAt, markAt}
 use Rattle.transpose.specs.Frame.{noFrame, frameAt}
 use Rattle.transpose.specs.declared.frame.Frame.{Frame}
 use Rattle.transpose.specs.declared.frame.FrameRow.{FrameRow}
@@ -39,7 +39,7 @@ preAnswer n row = record { refused = n; row = row }
 abbrev pub preRow : Frames → Lent → ℕ → ℕ → PreRow
 preRow f s slot index =
     rowAnswer preAnswer (rowRefusal f s family.Pre slot index)
-    (preOf (cellsAt f family.Pre (s .cells .pres) slot index) (f .version)) noPre
+    (preOf (cellsAt f family.Pre (s .cells .pres) slot index) (f .version) (markAt f (s .presence) slot index)) noPre
 
 abbrev pub postAnswer : ℕ → Post → PostRow
 postAnswer n row = record { refused = n; row = row }
@@ -47,7 +47,7 @@ postAnswer n row = record { refused = n; row = row }
 abbrev pub postRow : Frames → Lent → ℕ → ℕ → PostRow
 postRow f s slot index =
     rowAnswer postAnswer (rowRefusal f s family.Post slot index)
-    (postOf (cellsAt f family.Post (s .cells .posts) slot index) (f .version)) noPost
+    (postOf (cellsAt f family.Post (s .cells .posts) slot index) (f .version) (markAt f (s .presence) slot index)) noPost
 
 abbrev pub itemAnswer : ℕ → Item → ItemRow
 itemAnswer n row = record { refused = n; row = row }

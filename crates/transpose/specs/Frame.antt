@@ -39,12 +39,12 @@ noFrame = record {
   «stadium_transformations» = noRange;
 }
 
-abbrev pub frameOf : Frames → (ids starts pres posts ends : List ℕ) → Offsets → ℕ → Frame
-frameOf f ids starts pres posts ends o index = record {
+abbrev pub frameOf : Frames → (ids starts pres posts ends : List ℕ) → Offsets → (presence : List ℕ) → ℕ → Frame
+frameOf f ids starts pres posts ends o presence index = record {
   version = f .version;
   id = toZ w32 (getD ids index 0);
   «port_count» = f .«port_count»;
-  ports = portsAt f pres posts index;
+  ports = portsAt f pres posts presence index;
   start = frameStartOf (cellsAt f family.FrameStart starts 0 index) (f .version);
   end = frameEndOf (cellsAt f family.FrameEnd ends 0 index) (f .version);
   items = rangeAt f family.Item (o .items) index;
@@ -54,4 +54,4 @@ frameOf f ids starts pres posts ends o index = record {
 }
 
 abbrev pub frameAt : Frames → Lent → ℕ → Frame
-frameAt f s index = frameOf f (s .cells .ids) (s .cells .starts) (s .cells .pres) (s .cells .posts) (s .cells .ends) (s .offsets) index
+frameAt f s index = frameOf f (s .cells .ids) (s .cells .starts) (s .cells .pres) (s .cells .posts) (s .cells .ends) (s .offsets) (s .presence) index

@@ -2,7 +2,7 @@
 -- Assumes nothing.
 use Prim.Native.Nat.{ℕ, _+_, _<_}
 use mathlib.Core.Path.{_≡_}
-use mathlib.Core.Bool.{cond}
+use mathlib.Core.Bool.{false, cond}
 use mathlib.Core.List.{List, [], _∷_}
 use lib.Dec.{ltb}
 use lib.ListN.{length, getD}
@@ -14,13 +14,15 @@ use Rattle.game.specs.Stores.{Offsets}
 use Rattle.frames.specs.Inner.{Stored, Placed}
 use Rattle.game.specs.declared.frames.Frames.{Frames}
 use Rattle.game.specs.declared.frames.PortColumn.{PortColumn}
-use Rattle.players.specs.Presence.{slotsBefore}
+use Rattle.players.specs.Inner.{Modest}
+use Rattle.players.specs.Presence.{slotsBefore, portsUneven}
 use Rattle.rows.specs.Inner.{Within}
-use Rattle.rows.specs.Rows.{noCells}
+use Rattle.rows.specs.Rows.{noCells, noVersion, preOf, postOf}
 use Rattle.transpose.specs.Judge.{outside}
 use Rattle.transpose.specs.Records.{cellsAt}
 use Rattle.transpose.specs.Ports.{noPortData}
 use Rattle.transpose.specs.Answers.{unlessRefused}
+use Rattle.transpose.specs.declared.frame.Data.{Data}
 use Rattle.transpose.specs.declared.frame.PortData.{PortData}
 use Rattle.transpose.specs.declared.ports.Seat.{Seat}
 
@@ -35,6 +37,16 @@ pub record Fetched (f : Frames) (family : Family) (cells : List ℕ) (block row 
   pub is : raw ≡ unlessRefused n (cellsAt f family cells block row) noCells
   pub within : Within family raw
 
+-- presence bytes that were judged, and a slot
+pub record Attending (f : Frames) (slot : ℕ) : Type 0 where
+  pub modest : Modest f
+  pub even : portsUneven f ≡ false
+  pub slot-in : slot < length (slotsOf f)
+
+-- zeros beside a mark
+abbrev pub nobody : ℕ → Data
+nobody mark = record { present = mark; pre = preOf noCells noVersion mark; post = postOf noCells noVersion mark }
+
 -- stores that were judged, a slot and a frame
 pub record Playing (f : Frames) (pres posts : List ℕ) (slot index : ℕ) : Type 0 where
   pub pre : Reachable f family.Pre pres slot index
@@ -45,6 +57,8 @@ pub record Played (f : Frames) (pres posts : List ℕ) (index : ℕ) : Type 0 wh
   pub pre : Stored f family.Pre pres
   pub post : Stored f family.Post posts
   pub frame : index < f .counts .frames
+  pub modest : Modest f
+  pub even : portsUneven f ≡ false
 
 -- the number of a refusal, or of the place's
 unfoldable pub placeRefusal : ℕ → Frames → Family → ℕ → ℕ → ℕ

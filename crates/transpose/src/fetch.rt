@@ -2,13 +2,15 @@
 ghost use mathlib.Core.Path.{_≡_};
 ghost use Rattle.layout.specs.declared.columns.Family.the-variants as family;
 ghost use Rattle.rows.specs.Rows.{preOf, postOf, itemOf, frameStartOf, frameEndOf, fodPlatformOf, dreamlandWhispyOf, stadiumTransformationOf};
-ghost use Rattle.rows.specs.Rows.{noVersion, noPre, noPost, noItem, noFrameStart, noFrameEnd, noFodPlatform, noDreamlandWhispy, noStadiumTransformation};
+ghost use Rattle.rows.specs.Rows.{noCells, noVersion, noItem, noFrameStart, noFrameEnd, noFodPlatform, noDreamlandWhispy, noStadiumTransformation};
 ghost use Rattle.transpose.specs.Answers.{unlessRefused};
-ghost use Rattle.transpose.specs.Records.{cellsAt};
-ghost use Rattle.transpose.specs.Inner.{Reachable, Fetched};
+ghost use Rattle.transpose.specs.Records.{cellsAt, markAt};
+ghost use Rattle.transpose.specs.Inner.{Reachable, Fetched, Attending};
 use format::version::Version;
 use game::frames::Frames;
 use layout::columns::Family;
+use players::presence::is_present;
+use players::slots::slots_of;
 use rows::cells::row_cells;
 use rows::item::Item;
 use rows::item::item_of;
@@ -36,6 +38,21 @@ pub fn version_shown(version: Version, n: u8) -> Version
     version
 }
 
+// A player's mark: 1 where it is in the frame by its presence bit.
+pub fn mark_at(f: Frames, presence: &[u8], slot: usize, index: usize, n: u8) -> u8
+    requires { ⌜ (n ≡ 0 → Attending f slot) ⌝ }
+    ensures { λ r. ⌜ r ≡ unlessRefused n (markAt f (now (presence .entry)) slot index) 0 ⌝ }
+{
+    if n != 0 {
+        return 0;
+    }
+    let s = slots_of(f);
+    if is_present(presence, s.at[slot], s.len[slot], index) {
+        return 1;
+    }
+    0
+}
+
 // The cells of a family's record.
 fn record_at(f: Frames, family: Family, cells: &[u32], block: usize, row: usize, n: u8) -> [u32; 32]
     requires { ⌜ (n ≡ 0 → Reachable f family (now cells) block row) ⌝ }
@@ -48,23 +65,25 @@ fn record_at(f: Frames, family: Family, cells: &[u32], block: usize, row: usize,
     row_cells(family, f.version, cells, rows, block, row)
 }
 
-pub fn pre_at(f: Frames, cells: &[u32], slot: usize, index: usize, n: u8) -> Pre
+pub fn pre_at(f: Frames, cells: &[u32], slot: usize, index: usize, mark: u8, n: u8) -> Pre
     requires { ⌜ (n ≡ 0 → Reachable f family.Pre (now cells) slot index) ⌝ }
-    ensures { λ r. ⌜ r ≡ unlessRefused n (preOf (cellsAt f family.Pre (now (cells .entry)) slot index) (f .version)) noPre ⌝ }
+    ensures { λ r. ⌜ r ≡ unlessRefused n (preOf (cellsAt f family.Pre (now (cells .entry)) slot index) (f .version) mark) (preOf noCells noVersion mark) ⌝ }
 {
     pre_of(
         record_at(f, Family::Pre, cells, slot, index, n),
         version_shown(f.version, n),
+        mark,
     )
 }
 
-pub fn post_at(f: Frames, cells: &[u32], slot: usize, index: usize, n: u8) -> Post
+pub fn post_at(f: Frames, cells: &[u32], slot: usize, index: usize, mark: u8, n: u8) -> Post
     requires { ⌜ (n ≡ 0 → Reachable f family.Post (now cells) slot index) ⌝ }
-    ensures { λ r. ⌜ r ≡ unlessRefused n (postOf (cellsAt f family.Post (now (cells .entry)) slot index) (f .version)) noPost ⌝ }
+    ensures { λ r. ⌜ r ≡ unlessRefused n (postOf (cellsAt f family.Post (now (cells .entry)) slot index) (f .version) mark) (postOf noCells noVersion mark) ⌝ }
 {
     post_of(
         record_at(f, Family::Post, cells, slot, index, n),
         version_shown(f.version, n),
+        mark,
     )
 }
 

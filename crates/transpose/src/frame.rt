@@ -25,9 +25,10 @@ use rows::pre::Pre;
 use rows::small::FrameEnd;
 use rows::small::FrameStart;
 
-// What a player does in a frame.
+// What a player does in a frame, and whether it is there: 1, or 0 beside the values that the stores have for it. Its Pre and Post say the same.
 #[repr(C)]
 pub struct Data {
+    pub present: u8,
     pub pre: Pre,
     pub post: Post,
 }
@@ -131,16 +132,17 @@ fn frame_at(
     fod_offsets: &[u32],
     whispy_offsets: &[u32],
     stadium_offsets: &[u32],
+    presence: &[u8],
     index: usize,
     n: u8,
 ) -> Frame
     requires { ⌜ (n ≡ 0 → Showable f (now ids) (now starts) (now pres) (now posts) (now ends)
         (offsets (now «item_offsets») (now «fod_offsets») (now «whispy_offsets») (now «stadium_offsets»)) index) ⌝ }
     ensures { λ r. ⌜ r ≡ unlessRefused n (frameOf f (now (ids .entry)) (now (starts .entry)) (now (pres .entry)) (now (posts .entry)) (now (ends .entry))
-        (offsets (now («item_offsets» .entry)) (now («fod_offsets» .entry)) (now («whispy_offsets» .entry)) (now («stadium_offsets» .entry))) index) noFrame ⌝ }
+        (offsets (now («item_offsets» .entry)) (now («fod_offsets» .entry)) (now («whispy_offsets» .entry)) (now («stadium_offsets» .entry))) (now (presence .entry)) index) noFrame ⌝ }
 {
     let id = id_shown(ids, index, n);
-    let ports = ports_at(f, pres, posts, index, n);
+    let ports = ports_at(f, pres, posts, presence, index, n);
     let start = frame_start_at(f, starts, index, n);
     let end = frame_end_at(f, ends, index, n);
     let items = range_shown(f, Family::Item, item_offsets, index, n);
@@ -224,6 +226,7 @@ pub fn frame_row(
         fod_offsets,
         whispy_offsets,
         stadium_offsets,
+        presence,
         index,
         n,
     );

@@ -1,8 +1,9 @@
 // The players of a frame, by their port columns: none where the frame is refused (n is not 0).
 ghost use mathlib.Core.Path.{_≡_};
 ghost use Rattle.transpose.specs.Answers.{unlessRefused};
-ghost use Rattle.transpose.specs.Ports.{noData, dataAt, noPortData, portAt, portsAt};
-ghost use Rattle.transpose.specs.Inner.{Playing, Played, Seated, noSeat, noPorts};
+ghost use Rattle.transpose.specs.Ports.{dataOf, noPortData, portAt, portsAt};
+ghost use Rattle.transpose.specs.Inner.{Playing, Played, Seated, nobody, noSeat, noPorts};
+use super::fetch::mark_at;
 use super::fetch::post_at;
 use super::fetch::pre_at;
 use super::frame::Data;
@@ -64,23 +65,46 @@ fn seat_at(f: Frames, k: usize, n: u8) -> Seat
     }
 }
 
-fn data_at(f: Frames, pres: &[u32], posts: &[u32], slot: usize, index: usize, n: u8) -> Data
+// What a player does in a frame, whose mark is known.
+fn data_at(
+    f: Frames,
+    pres: &[u32],
+    posts: &[u32],
+    slot: usize,
+    index: usize,
+    mark: u8,
+    n: u8,
+) -> Data
     requires { ⌜ (n ≡ 0 → Playing f (now pres) (now posts) slot index) ⌝ }
-    ensures { λ r. ⌜ r ≡ unlessRefused n (dataAt f (now (pres .entry)) (now (posts .entry)) slot index) noData ⌝ }
+    ensures { λ r. ⌜ r ≡ unlessRefused n (dataOf f (now (pres .entry)) (now (posts .entry)) slot index mark) (nobody mark) ⌝ }
 {
-    let pre = pre_at(f, pres, slot, index, n);
-    let post = post_at(f, posts, slot, index, n);
-    Data { pre, post }
+    let pre = pre_at(f, pres, slot, index, mark, n);
+    let post = post_at(f, posts, slot, index, mark, n);
+    Data {
+        present: mark,
+        pre,
+        post,
+    }
 }
 
 // The k-th port column's players, or none: one literal for every case, since each one more would take its room on the stack.
-fn port_at(f: Frames, pres: &[u32], posts: &[u32], index: usize, k: usize, n: u8) -> PortData
+fn port_at(
+    f: Frames,
+    pres: &[u32],
+    posts: &[u32],
+    presence: &[u8],
+    index: usize,
+    k: usize,
+    n: u8,
+) -> PortData
     requires { ⌜ (n ≡ 0 → Played f (now pres) (now posts) index) ⌝ }
-    ensures { λ r. ⌜ r ≡ unlessRefused n (portAt f (now (pres .entry)) (now (posts .entry)) index k) noPortData ⌝ }
+    ensures { λ r. ⌜ r ≡ unlessRefused n (portAt f (now (pres .entry)) (now (posts .entry)) (now (presence .entry)) index k) noPortData ⌝ }
 {
     let s = seat_at(f, k, n);
-    let leader = data_at(f, pres, posts, s.slot, index, s.no_leader);
-    let follower = data_at(f, pres, posts, s.second, index, s.no_follower);
+    let first = mark_at(f, presence, s.slot, index, s.no_leader);
+    let second = mark_at(f, presence, s.second, index, s.no_follower);
+    let leader = data_at(f, pres, posts, s.slot, index, first, s.no_leader);
+    let follower = data_at(f, pres, posts, s.second, index, second, s.no_follower);
     PortData {
         port: s.port,
         follower_given: s.given,
@@ -89,13 +113,20 @@ fn port_at(f: Frames, pres: &[u32], posts: &[u32], index: usize, k: usize, n: u8
     }
 }
 
-pub fn ports_at(f: Frames, pres: &[u32], posts: &[u32], index: usize, n: u8) -> [PortData; 4]
+pub fn ports_at(
+    f: Frames,
+    pres: &[u32],
+    posts: &[u32],
+    presence: &[u8],
+    index: usize,
+    n: u8,
+) -> [PortData; 4]
     requires { ⌜ (n ≡ 0 → Played f (now pres) (now posts) index) ⌝ }
-    ensures { λ r. ⌜ r ≡ unlessRefused n (portsAt f (now (pres .entry)) (now (posts .entry)) index) noPorts ⌝ }
+    ensures { λ r. ⌜ r ≡ unlessRefused n (portsAt f (now (pres .entry)) (now (posts .entry)) (now (presence .entry)) index) noPorts ⌝ }
 {
-    let a = port_at(f, pres, posts, index, 0, n);
-    let b = port_at(f, pres, posts, index, 1, n);
-    let c = port_at(f, pres, posts, index, 2, n);
-    let d = port_at(f, pres, posts, index, 3, n);
+    let a = port_at(f, pres, posts, presence, index, 0, n);
+    let b = port_at(f, pres, posts, presence, index, 1, n);
+    let c = port_at(f, pres, posts, presence, index, 2, n);
+    let d = port_at(f, pres, posts, presence, index, 3, n);
     [a, b, c, d]
 }

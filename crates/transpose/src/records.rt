@@ -5,6 +5,7 @@ ghost use Rattle.transpose.specs.Answers.{preRow, postRow, itemRow, fodP
 use super::fetch::dreamland_whispy_at;
 use super::fetch::fod_platform_at;
 use super::fetch::item_at;
+use super::fetch::mark_at;
 use super::fetch::post_at;
 use super::fetch::pre_at;
 use super::fetch::stadium_transformation_at;
@@ -100,7 +101,8 @@ pub fn pre_row(
         0,
     );
     let n = place_refused(judged, f, Family::Pre, slot, index);
-    let row = pre_at(f, pres, slot, index, n);
+    let mark = mark_at(f, presence, slot, index, n);
+    let row = pre_at(f, pres, slot, index, mark, n);
     PreRow { refused: n, row }
 }
 
@@ -149,7 +151,8 @@ pub fn post_row(
         0,
     );
     let n = place_refused(judged, f, Family::Post, slot, index);
-    let row = post_at(f, posts, slot, index, n);
+    let mark = mark_at(f, presence, slot, index, n);
+    let row = post_at(f, posts, slot, index, mark, n);
     PostRow { refused: n, row }
 }
 

@@ -1,7 +1,10 @@
 //! Our rows against `transpose_one`.
 
 use games::{adapt, Case};
-use peppi::{frame::transpose, game::immutable::Game};
+use peppi::{
+	frame::{immutable, transpose},
+	game::immutable::Game,
+};
 use slp::rows as ours;
 
 use crate::{
@@ -106,10 +109,12 @@ fn check_frame(case: &Case, game: &Game, index: usize, counts: &mut Counts) -> O
 		return Some(format!("frame {index}: ours {} with {} ports", row.id, row.port_count));
 	}
 	let players = (0..4).find_map(|p| check_port(case, &row.ports[p], theirs.ports.get(p)));
+	let marks = (0..4).find_map(|p| check_marks(&row.ports[p], game.frames.ports.get(p), index));
 	players
+		.or(marks)
 		.or_else(|| same(case, "start", &row.start, &theirs.start.unwrap_or_default()))
 		.or_else(|| same(case, "end", &row.end, &theirs.end.unwrap_or_default()))
-		.or_else(|| check_players(case, &theirs, index, counts))
+		.or_else(|| check_players(case, &row, &theirs, index, counts))
 		.or_else(|| check_families(case, &row, &theirs, index, counts))
 }
 
@@ -129,7 +134,22 @@ fn check_port(case: &Case, row: &ours::PortData, theirs: Option<&transpose::Port
 	})
 }
 
-/// Whether every bit of a player's rows is 0.
+/// Whether a player is in a frame, as the Rust's writer asks it: 1 or 0.
+fn mark(data: &immutable::Data, index: usize) -> u8 {
+	u8::from(data.validity.as_ref().map_or(true, |bits| bits.get_bit(index)))
+}
+
+/// The marks of a port's players; of one that the Rust does not have, 0.
+fn check_marks(row: &ours::PortData, theirs: Option<&immutable::PortData>, index: usize) -> Option<String> {
+	let leader = theirs.map_or(0, |port| mark(&port.leader, index));
+	let follower = theirs.and_then(|port| port.follower.as_ref()).map_or(0, |data| mark(data, index));
+	[(&row.leader, leader), (&row.follower, follower)].iter().find_map(|(data, mark)| {
+		let marks = [data.present, data.pre.present, data.post.present];
+		(marks != [*mark; 3]).then(|| format!("frame {index}: our marks {marks:?}, the Rust's {mark}"))
+	})
+}
+
+/// Whether every bit of a player's rows is 0, but for the marks, which are compared apart.
 fn empty(data: &ours::Data) -> bool {
 	let carried = [data.pre.carried(), data.post.carried()];
 	let fields = [data.pre.values(), data.post.values()].concat();
@@ -140,14 +160,18 @@ fn check_data(case: &Case, row: &ours::Data, theirs: &transpose::Data) -> Option
 	same(case, "pre", &row.pre, &theirs.pre).or_else(|| same(case, "post", &row.post, &theirs.post))
 }
 
-/// The players' own rows, slot after slot.
-fn check_players(case: &Case, theirs: &transpose::Frame, index: usize, counts: &mut Counts) -> Option<String> {
+/// The players' own rows, slot after slot, with the marks that the frame's row has.
+fn check_players(case: &Case, row: &ours::Frame, theirs: &transpose::Frame, index: usize, counts: &mut Counts) -> Option<String> {
+	let marks = row.ports.iter().flat_map(|p| [Some(p.leader.present), (p.follower_given != 0).then_some(p.follower.present)]).flatten();
 	let slots = theirs.ports.iter().flat_map(|p| [Some(&p.leader), p.follower.as_ref()]).flatten();
-	slots.enumerate().find_map(|(slot, data)| {
+	slots.zip(marks).enumerate().find_map(|(slot, (data, mark))| {
 		counts.rows += 2;
 		let pre = ours::pre_row(&case.game.frames, &case.stores(), slot, index);
 		let post = ours::post_row(&case.game.frames, &case.stores(), slot, index);
-		own(case, "own pre", pre, &data.pre).or_else(|| own(case, "own post", post, &data.post))
+		let marks = (pre.as_ref().map(|row| row.present), post.as_ref().map(|row| row.present));
+		own(case, "own pre", pre, &data.pre)
+			.or_else(|| own(case, "own post", post, &data.post))
+			.or_else(|| (marks != (Ok(mark), Ok(mark))).then(|| format!("slot {slot} of frame {index}: own marks {marks:?}, the frame's {mark}")))
 	})
 }
 

@@ -1,10 +1,10 @@
-//! Rows of a game by the names of their fields: two frames of a player at 2.0.0, who takes damage.
+//! Rows of a game by the names of their fields: three frames of a player at 2.0.0, who takes damage and then is gone.
 //!
 //!     cargo run --example rows
 
 use slp::{columns::post, rows, Counts, Family, Frames, PortColumn, Stores, Version};
 
-const FRAMES: usize = 2;
+const FRAMES: usize = 3;
 
 fn main() {
 	let version = Version { major: 2, minor: 0, patch: 0 };
@@ -16,11 +16,13 @@ fn main() {
 	}
 	let mut frames = Frames { version, port_count: 1, ..Default::default() };
 	frames.counts = Counts { frames: FRAMES, ..Default::default() };
-	frames.ports[0] = PortColumn { port: 2, ..Default::default() };
-	let stores = Stores { ids: &[0, 1], pres: &pres, posts: &posts, ..Default::default() };
+	frames.ports[0] = PortColumn { port: 2, leader_presence: 1, ..Default::default() };
+	// a presence bit a frame, the lowest first
+	let stores = Stores { ids: &[0, 1, 2], pres: &pres, posts: &posts, presence: &[3], ..Default::default() };
 	for index in 0..=FRAMES {
 		match rows::frame_row(&frames, &stores, index) {
 			Err(number) => println!("row {index}: refused {number}"),
+			Ok(row) if row.ports[0].leader.present == 0 => println!("frame {}: port {}, absent", row.id, row.ports[0].port),
 			Ok(row) => {
 				let post = row.ports[0].leader.post;
 				println!("frame {}: port {}, {:.1} percent, {} stocks", row.id, row.ports[0].port, post.percent, post.stocks);

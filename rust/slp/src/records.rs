@@ -37,6 +37,8 @@ pub struct Velocities {
 #[derive(Clone, Copy, Debug, Default, PartialEq)]
 pub struct Pre {
 	pub version: Version,
+	/// 1 or 0: whether the player is in the frame
+	pub present: u8,
 	pub bits: [u32; 32],
 	pub random_seed: u32,
 	pub state: u16,
@@ -64,6 +66,8 @@ pub struct Pre {
 #[derive(Clone, Copy, Debug, Default, PartialEq)]
 pub struct Post {
 	pub version: Version,
+	/// 1 or 0: whether the player is in the frame
+	pub present: u8,
 	pub bits: [u32; 32],
 	pub character: u8,
 	pub state: u16,
@@ -168,6 +172,8 @@ pub struct StadiumTransformation {
 #[repr(C)]
 #[derive(Clone, Copy, Debug, Default, PartialEq)]
 pub struct Data {
+	/// 1 or 0: whether the player is in the frame, as in both rows
+	pub present: u8,
 	pub pre: Pre,
 	pub post: Post,
 }
@@ -179,7 +185,7 @@ pub struct PortData {
 	/// 1 or 0
 	pub follower_given: u8,
 	pub leader: Data,
-	/// all 0 where there is none
+	/// absent, all 0, where there is none
 	pub follower: Data,
 }
 

@@ -1,7 +1,8 @@
 //! Rows: one record of a game as a struct with named fields.
 //!
-//! Fields that the version lacks are 0. Presence is not looked at. `bits` has the record's cells as they are, in the order of its columns: a
-//! float field is the float of its cell, and all patterns of a NaN are one NaN there, so look into `bits` for the pattern.
+//! Fields that the version lacks are 0. `bits` has the record's cells as they are, in the order of its columns: a float field is the float of its
+//! cell, and all patterns of a NaN are one NaN there, so look into `bits` for the pattern. A player's row says whether the player is in the frame:
+//! `present` is 1 or 0 by the presence bit. The values of an absent player are those that the stores have for it.
 //!
 //! ```
 //! // One frame of version 0.1.0 with one player.
@@ -14,6 +15,7 @@
 //!
 //! let row = slp::rows::frame_row(&frames, &stores, 0).unwrap();
 //! assert_eq!((row.id, row.port_count, row.ports[0].leader.post.percent), (0, 1, 12.5));
+//! assert_eq!((row.ports[0].leader.present, row.ports[0].follower.present), (1, 0));
 //! assert_eq!(slp::rows::post_row(&frames, &stores, 0, 0).unwrap(), row.ports[0].leader.post);
 //! // There is no second frame.
 //! assert_eq!(slp::rows::frame_row(&frames, &stores, 1), Err(13));

@@ -19,7 +19,10 @@ fn a_frame_has_its_players() {
 	for index in 0..FRAMES {
 		let row = rows::frame_row(&made.game.frames, &made.stores(), index).unwrap();
 		assert_eq!((row.id, row.port_count, row.ports[0].port, row.ports[0].follower_given), (index as i32 - 123, 1, 1, 1));
+		// the follower is away in the second frame
+		assert_eq!((row.ports[0].leader.present, row.ports[0].follower.present), (1, u8::from(index != 1)));
 		for (slot, data) in [row.ports[0].leader, row.ports[0].follower].into_iter().enumerate() {
+			assert_eq!((data.pre.present, data.post.present), (data.present, data.present));
 			assert_eq!(data.pre.bits[..pre::COLUMNS], cells(&made.pres, pre::COLUMNS, slot, index));
 			assert_eq!(data.post.bits[..post::COLUMNS], cells(&made.posts, post::COLUMNS, slot, index));
 			assert_eq!(rows::pre_row(&made.game.frames, &made.stores(), slot, index), Ok(data.pre));
@@ -35,6 +38,19 @@ fn a_frame_says_which_items_it_has() {
 	assert_eq!(ranges.iter().map(|range| (range.first, range.count)).collect::<Vec<_>>(), [(0, 1), (1, 0), (1, 2)]);
 	let item = rows::item_row(&made.game.frames, &made.stores(), 2).unwrap();
 	assert_eq!(u32::from(item.type_id), made.items[2]);
+}
+
+#[test]
+fn a_follower_that_the_port_has_not_is_absent() {
+	let mut made = Made::new();
+	made.game.frames.ports[0].follower = 0;
+	made.game.frames.ports[0].follower_presence = 0;
+	made.presence.clear();
+	made.pres.truncate(pre::COLUMNS * FRAMES);
+	made.posts.truncate(post::COLUMNS * FRAMES);
+	let row = rows::frame_row(&made.game.frames, &made.stores(), 0).unwrap();
+	assert_eq!((row.ports[0].leader.present, row.ports[0].follower), (1, rows::Data::default()));
+	assert_eq!(rows::pre_row(&made.game.frames, &made.stores(), 1, 0), Err(13));
 }
 
 #[test]

@@ -26,6 +26,28 @@ static void put_slot(values *v, const input *in, family k, size_t slot, size_t i
 	put_record(v, k, version, c->p + slot * columns_of(k, version) * frames, frames, index);
 }
 
+/* Whether a slot's player is in a frame: bit `index` of the slot's own bytes, which follow those of the slots before it. */
+static uint8_t present(const input *in, size_t slot, size_t index)
+{
+	const slp_frames *f = &in->game.frames;
+	size_t before = 0;
+	for (size_t i = 0, at = 0; i < f->port_count; i++) {
+		const slp_port_column *p = &f->ports[i];
+		for (int follower = 0; follower <= (p->follower != 0); follower++, at++) {
+			size_t bytes = follower ? p->follower_presence : p->leader_presence;
+			if (at == slot)
+				return bytes == 0 || (in->stores.presence.p[before + index / 8] >> index % 8 & 1);
+			before += bytes;
+		}
+	}
+	return 0;
+}
+
+static void put_mark(values *v, const input *in, size_t slot, size_t index)
+{
+	v->marks[v->n_marks++] = present(in, slot, index);
+}
+
 static void put_range(values *v, slp_cells offsets, size_t index)
 {
 	put(v, offsets.len ? offsets.p[index] : 0);
@@ -34,6 +56,7 @@ static void put_range(values *v, slp_cells offsets, size_t index)
 
 static void put_player(values *v, const input *in, size_t slot, size_t index)
 {
+	put_mark(v, in, slot, index);
 	put_slot(v, in, PRE, slot, index);
 	put_slot(v, in, POST, slot, index);
 }
@@ -67,8 +90,8 @@ values model_row(const input *in, row_kind kind, size_t slot, size_t index)
 	memset(&v, 0, sizeof v);
 	switch (kind) {
 	case FRAME_ROW: put_frame(&v, in, index); break;
-	case PRE_ROW: put_slot(&v, in, PRE, slot, index); break;
-	case POST_ROW: put_slot(&v, in, POST, slot, index); break;
+	case PRE_ROW: put_mark(&v, in, slot, index), put_slot(&v, in, PRE, slot, index); break;
+	case POST_ROW: put_mark(&v, in, slot, index), put_slot(&v, in, POST, slot, index); break;
 	case ITEM_ROW: put_record(&v, ITEM, f->version, s->items.p, f->counts.items, index); break;
 	case FOD_ROW: put_record(&v, FOD, f->version, s->fods.p, f->counts.fods, index); break;
 	case WHISPY_ROW: put_record(&v, WHISPY, f->version, s->whispys.p, f->counts.whispys, index); break;

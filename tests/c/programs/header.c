@@ -23,13 +23,13 @@ _Static_assert(sizeof(slp_end) == 11, "slp_end");
 _Static_assert(sizeof(slp_game) == 1584 && offsetof(slp_game, start) == 152 && offsetof(slp_game, end) == 1560 &&
                offsetof(slp_game, double_end) == 1571 && offsetof(slp_game, actual_size) == 1576, "slp_game");
 
-_Static_assert(sizeof(slp_pre) == 200 && offsetof(slp_pre, bits) == 4 && offsetof(slp_pre, random_seed) == 132, "slp_pre");
-_Static_assert(sizeof(slp_post) == 216 && offsetof(slp_post, state_flags) == 164 && offsetof(slp_post, instance_id) == 214, "slp_post");
+_Static_assert(sizeof(slp_pre) == 200 && offsetof(slp_pre, present) == 3 && offsetof(slp_pre, bits) == 4 && offsetof(slp_pre, random_seed) == 132, "slp_pre");
+_Static_assert(sizeof(slp_post) == 216 && offsetof(slp_post, present) == 3 && offsetof(slp_post, state_flags) == 164 && offsetof(slp_post, instance_id) == 214, "slp_post");
 _Static_assert(sizeof(slp_item) == 176 && sizeof(slp_frame_start) == 140 && sizeof(slp_frame_end) == 136, "records");
 _Static_assert(sizeof(slp_fod_platform) == 140 && sizeof(slp_dreamland_whispy) == 136 && sizeof(slp_stadium_transformation) == 136, "records");
-_Static_assert(sizeof(slp_port_data) == 836 && sizeof(slp_frame) == 3704 && offsetof(slp_frame, id) == 4 && offsetof(slp_frame, port_count) == 8 &&
-               offsetof(slp_frame, start) == 3360, "slp_frame");
-_Static_assert(sizeof(slp_frame_answer) == 3712 && sizeof(slp_pre_answer) == 204 && sizeof(slp_item_answer) == 180, "answers");
+_Static_assert(sizeof(slp_data) == 420 && sizeof(slp_port_data) == 844 && sizeof(slp_frame) == 3736 && offsetof(slp_frame, id) == 4 && offsetof(slp_frame, port_count) == 8 &&
+               offsetof(slp_frame, start) == 3392, "slp_frame");
+_Static_assert(sizeof(slp_frame_answer) == 3744 && sizeof(slp_pre_answer) == 204 && sizeof(slp_item_answer) == 180, "answers");
 
 _Static_assert(SLP_OK == 0 && SLP_SHORT_OUTPUT == 12 && SLP_BAD_PLACE == 17, "refusals");
 _Static_assert(SLP_LAST_FRAME_ID - SLP_FIRST_FRAME_ID + 1 == SLP_MAX_FRAMES, "frame ids");

@@ -23,6 +23,7 @@ static void check_row(const input *in, row_kind kind, size_t slot, size_t index)
 	}
 	values v = model_row(in, kind, slot, index);
 	CHECK(flat_is(&f, v.values, v.n));
+	CHECK(flat_marked(&f, v.marks, v.n_marks));
 }
 
 /* All rows that there are, and one more. */
@@ -167,7 +168,7 @@ static void damaged(void)
 
 /* ---- what a cell can be */
 
-/* Players who are absent have rows all the same. */
+/* Players who are absent have the same values, and say that they are absent. */
 static void absent_players(void)
 {
 	plan p = rich_plan();
@@ -181,6 +182,12 @@ static void absent_players(void)
 	flat after = guarded_row(&m.in, FRAME_ROW, 0, 4);
 	CHECK_EQ(after.refused, 0);
 	CHECK(flat_is(&after, before.cells, before.n));
+	CHECK(before.marks[0] == 1 && after.marks[0] == 0);
+	CHECK(after.n_marks == before.n_marks && memcmp(after.marks + 1, before.marks + 1, before.n_marks - 1) == 0);
+	m.presence[0] = 1u << 4;
+	CHECK_EQ(guarded_row(&m.in, FRAME_ROW, 0, 4).marks[0], 1);
+	CHECK_EQ(guarded_row(&m.in, PRE_ROW, 0, 4).marks[0], 1);
+	CHECK_EQ(guarded_row(&m.in, PRE_ROW, 0, 5).marks[0], 0);
 	check_all(&m.in);
 	unmake(&m);
 }

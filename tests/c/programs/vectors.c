@@ -131,6 +131,9 @@ static void check_row(const input *in, stream *s)
 		flat f = guarded_row(in, (row_kind)kind.p[0], slot, index);
 		CHECK_EQ(f.refused, 0);
 		CHECK(flat_is(&f, should.p, should.len));
+		/* the stored rows have values alone; marks are told by the presence bits */
+		values v = model_row(in, (row_kind)kind.p[0], slot, index);
+		CHECK(flat_marked(&f, v.marks, v.n_marks));
 		rows_checked++;
 	}
 	free((void *)(uintptr_t)should.p);

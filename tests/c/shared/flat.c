@@ -42,6 +42,11 @@ static void record(flat *f, slp_version is, slp_version should, const uint32_t b
 	f->odd |= f->n != f->n_cells;
 }
 
+static void mark(flat *f, uint8_t present)
+{
+	f->marks[f->n_marks++] = present;
+}
+
 static void pre(flat *f, const slp_pre *p, slp_version v)
 {
 	field(f, p->random_seed);
@@ -123,6 +128,8 @@ static void item(flat *f, const slp_item *p, slp_version v)
 
 static void data(flat *f, const slp_data *d, slp_version v)
 {
+	mark(f, d->present);
+	f->odd |= d->pre.present != d->present || d->post.present != d->present;
 	pre(f, &d->pre, v);
 	post(f, &d->post, v);
 }
@@ -219,9 +226,11 @@ static void any_row(flat *f, const input *in, row_kind kind, size_t slot, size_t
 		frame(f, &a.row, carried(f, in, a.refused));
 	} else if (kind == PRE_ROW) {
 		slp_pre_answer a = slp_pre_row(*g, SLP_STORES(s), slot, index);
+		mark(f, a.row.present);
 		pre(f, &a.row, carried(f, in, a.refused));
 	} else if (kind == POST_ROW) {
 		slp_post_answer a = slp_post_row(*g, SLP_STORES(s), slot, index);
+		mark(f, a.row.present);
 		post(f, &a.row, carried(f, in, a.refused));
 	} else if (kind == ITEM_ROW) {
 		slp_item_answer a = slp_item_row(*g, SLP_STORES(s), index);
@@ -262,9 +271,16 @@ int flat_is(const flat *f, const uint32_t *should, size_t n)
 	return 1;
 }
 
+int flat_marked(const flat *f, const uint8_t *marks, size_t n)
+{
+	return f->n_marks == n && memcmp(f->marks, marks, n) == 0;
+}
+
 int flat_is_zero(const flat *f)
 {
 	int any = f->odd;
+	for (size_t i = 0; i < f->n_marks; i++)
+		any |= f->marks[i] != 0;
 	for (size_t i = 0; i < f->n; i++)
 		any |= f->fields[i] != 0 || f->cells[i] != 0;
 	return !any;

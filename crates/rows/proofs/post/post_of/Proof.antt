@@ -14,6 +14,7 @@ returns c =
     let raw = a .t1 in
     λ i. record {
       version = a .version;
+      present = a .present;
       bits = raw;
       character = getD raw 0 0;
       state = getD raw 1 0;

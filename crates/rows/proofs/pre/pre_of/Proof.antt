@@ -15,6 +15,7 @@ returns c =
     let raw = a .t1 in
     λ i. record {
       version = a .version;
+      present = a .present;
       bits = raw;
       «random_seed» = getD raw 0 0;
       state = getD raw 1 0;

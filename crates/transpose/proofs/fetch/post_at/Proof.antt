@@ -8,7 +8,7 @@ use Rattle.transpose.proofs.fetch.post_at.Statement.{statement}
 use Rattle.transpose.proofs.fetch.post_at.Tie as tie
 
 returns : tie.Need-returns
-returns c = c .post-of .ensures ∙ row-shown postOf _ _ _ (c .before .before .record-at .ensures .is) (c .before .version-shown .ensures)
+returns c = c .post-of .ensures ∙ row-shown (λ raw v. postOf raw v (c .before .before .before .before .args .mark)) _ _ _ (c .before .before .record-at .ensures .is) (c .before .version-shown .ensures)
 
 pub post-at-spec : {M : Type 1} → statement M
 post-at-spec = tie.close (tie.spec (λ c κs. search needs) (λ c κs. search needs) (λ c κs. search needs) returns)

@@ -29,14 +29,14 @@ pub frame-at-spec : {M : Type 1} → statement M
 frame-at-spec =
     tie.close
     (tie.spec
-    (λ c κs. λ e. let p = c .before .before .before .before .before .before .before .before .before .pre e in omega (arith, p .ids-fit, p .players .frame))
-    (λ c κs. λ e. c .before .before .before .before .before .before .before .before .before .before .pre e .players)
-    (λ c κs. λ e. c .before .before .before .before .before .before .before .before .before .before .before .pre e .start)
-    (λ c κs. λ e. c .before .before .before .before .before .before .before .before .before .before .before .before .pre e .end)
-    (λ c κs. λ e. let p = c .before .before .before .before .before .before .before .before .before .before .before .before .before .pre e in (p .items, p .players .frame))
-    (λ c κs. λ e. let p = c .before .before .before .before .before .before .before .before .before .before .before .before .before .before .pre e in (p .fods, p .players .frame))
-    (λ c κs. λ e. let p = c .before .before .before .before .before .before .before .before .before .before .before .before .before .before .before .pre e in (p .whispys, p .players .frame))
-    (λ c κs. λ e. let p = c .before .before .before .before .before .before .before .before .before .before .before .before .before .before .before .before .pre e in (p .stadiums, p .players .frame))
+    (λ c κs. λ e. let p = c .before .before .before .before .before .before .before .before .before .before .pre e in omega (arith, p .ids-fit, p .players .frame))
+    (λ c κs. λ e. c .before .before .before .before .before .before .before .before .before .before .before .pre e .players)
+    (λ c κs. λ e. c .before .before .before .before .before .before .before .before .before .before .before .before .pre e .start)
+    (λ c κs. λ e. c .before .before .before .before .before .before .before .before .before .before .before .before .before .pre e .end)
+    (λ c κs. λ e. let p = c .before .before .before .before .before .before .before .before .before .before .before .before .before .before .pre e in (p .items, p .players .frame))
+    (λ c κs. λ e. let p = c .before .before .before .before .before .before .before .before .before .before .before .before .before .before .before .pre e in (p .fods, p .players .frame))
+    (λ c κs. λ e. let p = c .before .before .before .before .before .before .before .before .before .before .before .before .before .before .before .before .pre e in (p .whispys, p .players .frame))
+    (λ c κs. λ e. let p = c .before .before .before .before .before .before .before .before .before .before .before .before .before .before .before .before .before .pre e in (p .stadiums, p .players .frame))
     (λ c κs. tt)
     (λ c κs. tt)
     returns)

@@ -12,7 +12,9 @@ post-at-requires : tie.Need-post-at-requires
 post-at-requires c κs = λ e. c .before .before .before .pre e .post
 
 returns : tie.Need-returns
-returns c = (λ i. record { pre = c .before .pre-at .ensures i; post = c .post-at .ensures i }) ∙ data-shown _ _ _
+returns c =
+    let mark = c .before .before .before .before .args .mark in
+    (λ i. record { present = mark; pre = c .before .pre-at .ensures i; post = c .post-at .ensures i }) ∙ data-shown _ mark _ _ _ _
 
 pub data-at-spec : {M : Type 1} → statement M
 data-at-spec = tie.close (tie.spec pre-at-requires post-at-requires returns)

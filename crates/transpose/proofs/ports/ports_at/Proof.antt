@@ -12,4 +12,4 @@ returns c =
     ∙ four-shown _ _ _ _ _ _
 
 pub ports-at-spec : {M : Type 1} → statement M
-ports-at-spec = tie.close (tie.spec (λ c κs. c .before .before .pre) (λ c κs. c .before .before .before .pre) (λ c κs. c .before .before .before .before .pre) (λ c κs. c .before .before .before .before .before .pre) returns)
+ports-at-spec = tie.close (tie.spec (λ c κs. c .before .before .before .pre) (λ c κs. c .before .before .before .before .pre) (λ c κs. c .before .before .before .before .before .pre) (λ c κs. c .before .before .before .before .before .before .pre) returns)
