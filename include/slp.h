@@ -55,8 +55,8 @@ enum {
 	SLP_OUT_OF_RANGE = 13,
 	/* reader, offset 0: under 15 bytes or wrong signature */
 	SLP_NOT_A_REPLAY = 14,
-	/* reader, offset 15: table absent, not whole, size byte not 1 modulo 3, a code twice, or a declared length too small for
-	 * the table */
+	/* reader, offset 15: table absent, not whole, size byte not 1 modulo 3, a code twice, or a declared length, other than zero, too
+	 * small for the table */
 	SLP_BAD_TABLE = 15,
 	/* reader, at the event: code not in the table */
 	SLP_UNKNOWN_EVENT = 16,
@@ -95,6 +95,9 @@ enum {
 
 /* ======== reading ======== */
 
+/* A replay declares how long its event data is. A recorder fills that in when it closes the file: a length of zero never was, and then the
+ * event data runs to the end of what is given and is always cut. */
+
 /* What stands at a place. */
 enum { SLP_STEP_EVENT = 0, SLP_STEP_ENDS = 1, SLP_STEP_CUT = 2, SLP_STEP_REFUSED = 3 };
 
@@ -126,15 +129,15 @@ slp_step slp_step_at(const uint8_t *file, size_t file_len, size_t place);
 
 typedef struct {
 	uint8_t refused;   /* 0, or 14 to 17 */
-	uint8_t whole;     /* 1 if all declared bytes of event data are present, 0 if they are cut */
+	uint8_t whole;     /* 1 if all declared bytes of event data are present, 0 if they are cut; 0 if the length is zero */
 	size_t offset;     /* the file offset that a refusal names; else 0 */
 	size_t events;     /* whole events after the payload table */
 	size_t stray;      /* bytes of event data after the last whole event */
 	size_t place;      /* where the walk stopped */
 } slp_walked;
 
-/* All events of a replay, whole or cut. Nothing is claimed of bytes after the event data. On a refusal all numbers but `refused` and
- * `offset` are 0.
+/* All events of a replay, whole or cut. Nothing is claimed of bytes after the event data; where the length is zero, all bytes to the end are
+ * event data, a tail's too, whose first byte is then refused 16. On a refusal all numbers but `refused` and `offset` are 0.
  *
  *     slp_walked w = slp_walk(file, len);
  *     if (w.refused) printf("refused %u at %zu\n", w.refused, w.offset);

@@ -55,22 +55,26 @@ static void print_table(const content *c, const tally *t)
 	printf("%-4s  %-21s  %10zu  %7s  %12zu\n", "", "total", all, "", bytes);
 }
 
+static int refused_events(const char *name, const content *c, slp_step last)
+{
+	if (last.refused != SLP_NOT_A_REPLAY)
+		complain_unfilled(name, c->bytes, c->len);
+	complain_refused(name, last.refused, last.offset);
+	return FAILED;
+}
+
 /* The table, then what stands where the events stop. */
 static int print_events(const char *name, const content *c)
 {
 	tally t = { .counted = 0 };
 	slp_step last = count_events(c, &t);
-	if (last.refused == SLP_NOT_A_REPLAY || last.refused == SLP_BAD_TABLE) {
-		complain_refused(name, last.refused, last.offset);
-		return FAILED;
-	}
-	print_table(c, &t);
-	if (last.kind == SLP_STEP_REFUSED) {
-		complain_refused(name, last.refused, last.offset);
-		return FAILED;
-	}
+	if (last.refused != SLP_NOT_A_REPLAY && last.refused != SLP_BAD_TABLE)
+		print_table(c, &t);
+	if (last.kind == SLP_STEP_REFUSED)
+		return refused_events(name, c, last);
 	slp_walked w = slp_walk(c->bytes, c->len);
 	printf("\n%zu events after Payloads, %zu stray bytes, %s\n", w.events, w.stray, w.whole ? "whole" : "cut");
+	complain_unfilled(name, c->bytes, c->len);
 	if (!w.whole)
 		complain_cut(name, c->bytes, c->len);
 	return w.whole ? WELL : FAILED;

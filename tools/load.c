@@ -11,14 +11,14 @@
 /* Signature and length; and how much is read at a time. */
 enum { HEAD = 15, SLICE = 1 << 20 };
 
-/* How far a replay matters: to the end of its event data, as its head says. */
+/* How far a replay matters: to the end of its event data, as its head says; to its own end where the length was never filled in. */
 static size_t wanted(const content *c)
 {
 	if (c->len < HEAD)
 		return HEAD;
 	if (slp_walk(c->bytes, HEAD).refused == SLP_NOT_A_REPLAY)
 		return HEAD;
-	return HEAD + declared_length(c->bytes);
+	return unfilled(c->bytes, c->len) ? SIZE_MAX : HEAD + declared_length(c->bytes);
 }
 
 /* Room for one more slice. */

@@ -20,7 +20,8 @@ static const char HELP[] =
 	"  --progress=WHEN     a bar on standard error: auto (on a terminal, from 64 MB on), always, never\n"
 	"\n"
 	"EVENTS counts the whole events after the table of payload sizes, STRAY the bytes after the last of\n"
-	"them; whole means that all declared bytes are there. Reasons in words go to standard error.\n"
+	"them; whole means that all declared bytes are there. Reasons in words go to standard error. A length\n"
+	"of zero was never filled in: such a replay is read to its end, and is cut.\n"
 	"\n"
 	"Exit status: 0 if all went well and every replay is whole; 1 if a replay was refused or cut, or a file\n"
 	"could not be read or written; 2 for wrong usage.\n";

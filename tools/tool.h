@@ -19,10 +19,13 @@ const char *input_name(const char *path);
 void complain(const char *name, const char *format, ...) __attribute__((format(printf, 2, 3)));
 /* A reader's refusal. */
 void complain_refused(const char *name, unsigned number, size_t offset);
-/* A replay that is cut at `place`, with this many of its event data's bytes. */
+/* A replay that is cut, and how many of its event data's bytes there are. */
 void complain_cut(const char *name, const uint8_t *file, size_t len);
 /* The declared length of event data. */
 size_t declared_length(const uint8_t *file);
+/* Whether it was never filled in; and if so, that in words. */
+int unfilled(const uint8_t *file, size_t len);
+void complain_unfilled(const char *name, const uint8_t *file, size_t len);
 
 /* ---- load.c */
 

@@ -26,6 +26,8 @@ static int walk_file(const char *path, const char *prefix)
 	}
 	slp_walked w = slp_walk(c.bytes, c.len);
 	print_line(prefix, w);
+	if (w.refused != SLP_NOT_A_REPLAY)
+		complain_unfilled(input_name(path), c.bytes, c.len);
 	if (w.refused)
 		complain_refused(input_name(path), w.refused, w.offset);
 	else if (!w.whole)

@@ -78,7 +78,21 @@ size_t declared_length(const uint8_t *file)
 	return (size_t)file[11] << 24 | (size_t)file[12] << 16 | (size_t)file[13] << 8 | file[14];
 }
 
+int unfilled(const uint8_t *file, size_t len)
+{
+	return len >= 15 && declared_length(file) == 0;
+}
+
+void complain_unfilled(const char *name, const uint8_t *file, size_t len)
+{
+	if (unfilled(file, len))
+		complain(name, "the length was never filled in: the event data is read to the file's end");
+}
+
 void complain_cut(const char *name, const uint8_t *file, size_t len)
 {
-	complain(name, "cut: %zu of %zu bytes of event data are there", len - 15, declared_length(file));
+	if (unfilled(file, len))
+		complain(name, "cut: %zu bytes of event data are there", len - 15);
+	else
+		complain(name, "cut: %zu of %zu bytes of event data are there", len - 15, declared_length(file));
 }

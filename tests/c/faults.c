@@ -54,6 +54,12 @@ size_t slp_first_place(const uint8_t *file, size_t file_len)
 	return place;
 }
 
+/* A length of zero. */
+static int unfilled(const uint8_t *file, size_t file_len)
+{
+	return file_len > 14 && file[11] + file[12] + file[13] + file[14] == 0;
+}
+
 slp_walked slp_walk(const uint8_t *file, size_t file_len)
 {
 	slp_walked w = real_slp_walk(file, file_len);
@@ -63,6 +69,12 @@ slp_walked slp_walk(const uint8_t *file, size_t file_len)
 		w.stray = 0;
 	if (faulty("walk-whole"))
 		w.whole |= !w.refused && w.stray == 0;
+	if (faulty("walk-unfilled") && unfilled(file, file_len))
+		w.whole = !w.refused && w.stray == 0;
+	if (faulty("walk-unfilled-tail") && unfilled(file, file_len) && w.refused == 16)
+		w = real_slp_walk(file, w.offset);
+	if (faulty("walk-length-one") && file_len > 14 && file[11] + file[12] + file[13] == 0 && file[14] == 1)
+		w = (slp_walked){ .place = real_slp_first_place(file, file_len) };
 	if (faulty("walk-place"))
 		w.place -= w.events > 5;
 	if (faulty("walk-offset"))
@@ -83,6 +95,8 @@ slp_step slp_step_at(const uint8_t *file, size_t file_len, size_t place)
 		s.next++;
 	if (faulty("step-kind") && s.kind == SLP_STEP_ENDS)
 		s.kind = SLP_STEP_CUT;
+	if (faulty("step-unfilled") && s.kind == SLP_STEP_CUT && unfilled(file, file_len))
+		s.kind = SLP_STEP_ENDS;
 	if (faulty("step-far") && place == SIZE_MAX)
 		s.offset = 0;
 	if (faulty("step-before") && file_len)

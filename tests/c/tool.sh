@@ -107,6 +107,16 @@ patched unknown.slp 808 '\231'
 patched overrun.slp 13 '\126\273'
 { cat game.slp; echo more; } >longer.slp
 for f in signature table twice unknown overrun longer; do run walk $f.slp; done
+# a length that was never filled in: with the tail, at the end of the event data, cut, with a damaged table and with no table
+patched tail.slp 11 '\000\000\000\000'
+head -c 22219 tail.slp >unfilled.slp
+head -c 5000 tail.slp >unfilled-cut.slp
+head -c 20 tail.slp >unfilled-table.slp
+head -c 15 tail.slp >unfilled-head.slp
+patched short.slp 11 '\000\000\000\001'
+for f in tail unfilled unfilled-cut unfilled-table unfilled-head short; do run walk $f.slp; done
+from unfilled.slp walk -
+guarded walk game.slp unfilled.slp tail.slp
 guarded walk game.slp cut.slp missing.slp directory empty.slp unknown.slp longer.slp
 run walk game.slp longer.slp
 from cut.slp walk game.slp -
@@ -122,6 +132,11 @@ from game.slp events -
 cut_at=5000
 head -c $cut_at game.slp >cut.slp
 run events cut.slp
+run events unfilled.slp
+run events unfilled-cut.slp
+guarded events tail.slp
+run events unfilled-table.slp
+run events short.slp
 run events unknown.slp
 run events overrun.slp
 run events signature.slp

@@ -54,12 +54,12 @@ module _ (t : List Entry) (es : List Ev) (tail : List ℕ) (fresh : Fresh [] t) 
 
   -- once it is whole: exactly the events wholly before the cut, in order, their codes and payloads unaltered
   pub events : (k : ℕ) → firstPlace t ≤ k → eventsRead (cut k) ≡ before k
-  events k h = cut-events t es tail k fresh listed fits h
+  events k h = cut-events t es tail k fresh listed h fits
 
   -- their number, the bytes of events after them, whole exactly when all declared bytes are there, and the place after them
   pub walk : (k : ℕ) → firstPlace t ≤ k
       → walkOf (cut k) ≡ walked.Done (length (before k)) (present k - length (eventsBytes (before k))) (leb end k) (firstPlace t + length (eventsBytes (before k)))
-  walk k h = cut-walk t es tail k fresh listed fits h
+  walk k h = cut-walk t es tail k fresh listed h fits
 
   -- uncut: all of them, none stray, and whole
   length-is : length (fileOf t es tail) ≡ firstPlace t + (length (eventsBytes es) + length tail)

@@ -1,3 +1,4 @@
+pub mod Filled
 pub mod Heads
 pub mod Steps
 pub mod Written

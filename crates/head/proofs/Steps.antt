@@ -11,6 +11,7 @@ use lib.ListN.{length, getD}
 use Rattle.head.specs.Table.{stopOf, allPresent, tableOf, firstPlace, spanOf, headRefusal, headOffset}
 use Rattle.head.specs.Step.{eventIn, stepIn, stepOf}
 use Rattle.head.specs.Inner.{Opened, Advances}
+use Rattle.head.proofs.Filled.{stop-within}
 use Rattle.head.specs.declared.Step.{Step}
 use Rattle.head.specs.declared.Step.the-variants.{Event, Ends, Cut, Refused}
 
@@ -85,10 +86,6 @@ place-advances first stop n whole place code span le =
     let e = eventIn stop whole place code span in
     either place n (ltb place first || ltb stop place) (Refused 17 place) (cond (eqb place stop) (cond whole Ends Cut) e) tt
     (either place n (eqb place stop) (cond whole Ends Cut) e (either place n whole Ends Cut tt tt) (event-advances stop n whole place code span le))
-
-pub stop-within : (f : List ℕ) → stopOf f ≤ length f
-unfolding stopOf
-stop-within f = omega arith
 
 pub step-advances : (f : List ℕ) (place : ℕ) → Advances place (length f) (stepOf f place)
 unfolding stepOf

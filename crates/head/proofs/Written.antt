@@ -19,6 +19,7 @@ use Rattle.format.proofs.Files.{length-table}
 use Rattle.format.proofs.Refusals.{skip, here}
 use Rattle.head.specs.Table.{startsWith, declared, stopOf, allPresent, entriesIn, tableOf, firstPlace, spanOf, codeTwice, tableMissing, unsigned, untabled, headRefusal}
 use Rattle.head.specs.Step.{stepIn, stepOf}
+use Rattle.head.proofs.Filled.{stop-filled, present-filled, stop-unfilled, present-unfilled, stop-within}
 use Rattle.head.proofs.Heads.{span-other, once-more, too-short, table-absent, table-cut, none-there, signed-is}
 
 -- ---- codes in a table
@@ -100,19 +101,26 @@ module _ (t : List Entry) (n : ℕ) (body : List ℕ) (small : n < 2 ^ 32) where
   unfolding be part
   declared-is = number-be 4 n small
 
-  pub stop-is : stopOf file ≡ min (15 + n) (firstPlace t + length body)
-  unfolding stopOf
-  stop-is = rw (declared-is, length-file)
+  -- where the event data ends, and whether all of it is present: by a length that is filled in, and by one that is not
+  module _ (some : n ≡ 0 → ⊥) where
+    pub stop-is : stopOf file ≡ min (15 + n) (firstPlace t + length body)
+    stop-is = stop-filled file (λ z. some (sym declared-is ∙ z)) ∙ rw (declared-is, length-file)
 
-  pub present-is : allPresent file ≡ leb (15 + n) (firstPlace t + length body)
-  unfolding allPresent
-  present-is = rw (declared-is, length-file)
+    pub present-is : allPresent file ≡ leb (15 + n) (firstPlace t + length body)
+    present-is = present-filled file (λ z. some (sym declared-is ∙ z)) ∙ rw (declared-is, length-file)
+
+  module _ (none : n ≡ 0) where
+    pub stop-all : stopOf file ≡ firstPlace t + length body
+    stop-all = stop-unfilled file (declared-is ∙ none) ∙ length-file
+
+    pub never-whole : allPresent file ≡ false
+    never-whole = present-unfilled file (declared-is ∙ none)
 
   signed : unsigned file ≡ false
   unfolding unsigned startsWith
   signed = rw (le-ltb (length file) 15 (omega (arith, length-file)))
 
-  module _ (fresh : Fresh [] t) (room : 2 + 3 * length t ≤ n) where
+  module _ (fresh : Fresh [] t) (reached : firstPlace t ≤ stopOf file) where
     pub entries-are : tableOf file ≡ t
     unfolding tableOf tableBytes be
     entries-are = let q : (3 * length t + 1) / 3 ≡ length t = omega arith in rw q (read-entries [] t body fresh)
@@ -120,7 +128,7 @@ module _ (t : List Entry) (n : ℕ) (body : List ℕ) (small : n < 2 ^ 32) where
     there : tableMissing file ≡ false
     unfolding tableMissing tableBytes be
     there =
-        rw (le-ltb (stopOf file) 17 (omega (arith, stop-is)), eq-eqb ((3 * length t + 1) % 3) 1 (omega arith), le-ltb (stopOf file) (16 + (3 * length t + 1)) (omega (arith, stop-is)))
+        rw (le-ltb (stopOf file) 17 (omega arith), eq-eqb ((3 * length t + 1) % 3) 1 (omega arith), le-ltb (stopOf file) (16 + (3 * length t + 1)) (omega arith))
 
     accepted : headRefusal file ≡ 0
     unfolding headRefusal untabled lowest
@@ -147,9 +155,12 @@ module _ (t : List Entry) (n : ℕ) (rest : List ℕ) where
   abbrev part-of : ℕ → List ℕ
   part-of j = signature ++ (be 4 n ++ take j (tableBytes t ++ rest))
 
+  short-length : (j : ℕ) → length (part-of j) ≤ 15 + j
+  unfolding be
+  short-length j = simp length-take (omega arith)
+
   short-stop : (j : ℕ) → stopOf (part-of j) ≤ 15 + j
-  unfolding stopOf be
-  short-stop j = simp length-take (omega arith)
+  short-stop j = omega (arith, stop-within (part-of j), short-length j)
 
   missing : (j : ℕ) → j < 2 + 3 * length t → tableMissing (part-of j) ≡ true
   unfolding tableBytes be

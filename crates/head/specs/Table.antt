@@ -21,12 +21,17 @@ startsWith (x ∷ xs) (y ∷ ys) = eqb y x && startsWith xs ys
 abbrev pub declared : List ℕ → ℕ
 declared f = number (part f 11 4)
 
--- event data runs from byte 15 for the declared length, or to a cut: where it ends, and whether all of it is present
+-- a recorder fills the length in when it closes the file: zero says that it never did
+abbrev pub unfilled : List ℕ → Bool
+unfilled f = eqb (declared f) 0
+
+-- event data runs from byte 15 for the declared length, or to a cut: where it ends, and whether all of it is present;
+-- where the length was never filled in, it runs to the file's end, and is always cut
 unfoldable pub stopOf : List ℕ → ℕ
-stopOf f = min (15 + declared f) (length f)
+stopOf f = cond (unfilled f) (length f) (min (15 + declared f) (length f))
 
 unfoldable pub allPresent : List ℕ → Bool
-allPresent f = leb (15 + declared f) (length f)
+allPresent f = not (unfilled f) && leb (15 + declared f) (length f)
 
 -- n entries of three bytes each: a code, and a size in two bytes
 unfoldable pub entriesIn : ℕ → List ℕ → List Entry

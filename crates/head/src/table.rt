@@ -64,15 +64,15 @@ fn signed(file: &[u8]) -> bool
     true
 }
 
-// Event data runs from 15 for the declared length, or to a cut.
+// Event data runs from 15 for the declared length, or to a cut; where the length is zero, it was never filled in, and the data is cut.
 fn bounds_of(file: &[u8]) -> Bounds
     requires { ⌜ 15 ≤ length (now file) ⌝ }
     ensures { λ r. ⌜ (r .stop ≡ stopOf (now (file .entry))) × (r .whole ≡ allPresent (now (file .entry))) × (r .stop ≤ length (now (file .entry))) ⌝ }
 {
-    let end = 15 + wire::get_be(file, 11, 4) as usize;
-    if end <= file.len() {
+    let declared = wire::get_be(file, 11, 4) as usize;
+    if 0 < declared && 15 + declared <= file.len() {
         Bounds {
-            stop: end,
+            stop: 15 + declared,
             whole: true,
         }
     } else {

@@ -1,5 +1,5 @@
 // Reads a replay on standard input and walks it twice, through the reader as a value and by the walk: whole and cut after every byte, as it
-// is and damaged. Prints what the value found in all of it, and at how many cuts the two agree.
+// is, damaged, and with a length that was never filled in. Prints what the value found in all of it, and at how many cuts the two agree.
 use de::Walked;
 use head::Step;
 use libc::STDIN_FILENO;
@@ -159,6 +159,16 @@ fn show_changed(file: &mut [u8], at: usize, byte: u8) {
     }
 }
 
+// The same with a length below 65,536 that was never filled in.
+fn show_unfilled(file: &mut [u8]) {
+    if 13 < file.len() {
+        let high = file[13];
+        file[13] = 0;
+        show_changed(file, 14, 0);
+        file[13] = high;
+    }
+}
+
 fn main() {
     let mut buffer = [0u8; 4096];
     let n = io::read_full(STDIN_FILENO, &mut buffer);
@@ -169,4 +179,5 @@ fn main() {
     show_changed(file, 20, 0x36);
     show_changed(file, 350, 0x40);
     show_changed(file, 14, 0xf2);
+    show_unfilled(file);
 }

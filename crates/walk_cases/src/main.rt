@@ -1,5 +1,5 @@
-// Reads the smallest replay and 70,000 zeros behind it on standard input, and prints the line of it whole, cut, damaged, and followed by
-// more bytes than an input may have.
+// Reads the smallest replay and 70,000 zeros behind it on standard input, and prints the line of it whole, cut, damaged, with a length that
+// was never filled in, and followed by more bytes than an input may have.
 ghost use Prim.Native.Nat.{_≤_, _<_};
 ghost use lib.ListN.{length};
 use libc::STDIN_FILENO;
@@ -56,22 +56,31 @@ fn heads(file: &mut [u8]) {
     show_changed(file, 351, 20, 0x36);
 }
 
-// The whole file, with another declared length, below 256.
-fn show_length(file: &mut [u8], length: u8) {
+// The first n bytes, with another declared length, below 256.
+fn show_length(file: &mut [u8], n: usize, length: u8) {
     if 13 < file.len() {
         let high = file[13];
         file[13] = 0;
-        show_changed(file, 351, 14, length);
+        show_changed(file, n, 14, length);
         file[13] = high;
     }
 }
 
-// A length of 0, one that is too small for the table by a byte, that of the table alone, and one that ends within the event.
+// A length of 1, one that is too small for the table by a byte, that of the table alone, and one that ends within the event.
 fn lengths(file: &mut [u8]) {
-    show_length(file, 0);
-    show_length(file, 13);
-    show_length(file, 14);
-    show_length(file, 15);
+    show_length(file, 351, 1);
+    show_length(file, 351, 13);
+    show_length(file, 351, 14);
+    show_length(file, 351, 15);
+}
+
+// A length of 0, which was never filled in: cut in the table, after it, before and after the event's last byte, and with the tail.
+fn unfilled(file: &mut [u8]) {
+    show_length(file, 28, 0);
+    show_length(file, 29, 0);
+    show_length(file, 349, 0);
+    show_length(file, 350, 0);
+    show_length(file, 351, 0);
 }
 
 // A code that the table lacks, whole and cut; an event that overruns whole data, and one that is cut.
@@ -98,6 +107,7 @@ fn main() {
     cuts(&file);
     heads(&mut file);
     lengths(&mut file);
+    unfilled(&mut file);
     events(&mut file);
     longest(&file, n);
 }

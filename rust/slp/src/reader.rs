@@ -16,7 +16,7 @@ pub enum Step {
 	Event { code: u8, at: usize, payload: usize, len: usize, next: usize },
 	/// The event data ends here.
 	Ends,
-	/// An event that is cut.
+	/// An event that is cut, or the end of event data that is.
 	Cut,
 }
 
@@ -26,7 +26,8 @@ pub fn first_place(file: &[u8]) -> usize {
 	unsafe { raw::slp_first_place(file.as_ptr(), file.len()) }
 }
 
-/// The event at a place of a replay, whole or cut. The first one after the payload table stands at [`first_place`].
+/// The event at a place of a replay, whole or cut. The first one after the payload table stands at [`first_place`]. Where the length of the
+/// event data was never filled in, it runs to the end of `file`, and is cut there.
 ///
 /// ```
 /// let mut game = slp::Game::default();
@@ -61,13 +62,14 @@ pub struct Walked {
 	pub events: usize,
 	/// bytes of event data after the last whole event
 	pub stray: usize,
-	/// whether all declared bytes of event data are present
+	/// whether all declared bytes of event data are present; never where the length is zero
 	pub whole: bool,
 	/// where the walk stopped
 	pub place: usize,
 }
 
-/// Walks all events of a replay, whole or cut.
+/// Walks all events of a replay, whole or cut. A recorder fills in the length of the event data when it closes the file: where it is zero, it
+/// never was, the event data runs to the end of `file`, and it is cut.
 pub fn walk(file: &[u8]) -> Result<Walked, Refused> {
 	// SAFETY: the pointer comes with the length of its slice, and the call keeps nothing.
 	let w = unsafe { raw::slp_walk(file.as_ptr(), file.len()) };

@@ -49,6 +49,26 @@ fn a_cut_file_keeps_its_whole_events() {
 	}
 }
 
+/// A recorder fills the length in when it closes a file. Where it never did, the events and stray bytes are those of the same cut with the
+/// true length, the file is never whole, and its tail is judged as an event.
+#[test]
+fn a_length_never_filled_in_loses_no_event() {
+	let file = Made::new().write().unwrap();
+	let (first, end) = (slp::first_place(&file), file.len() - 1);
+	let mut unfilled = file.clone();
+	unfilled[11..15].fill(0);
+	for cut in first..=end {
+		let (walked, whole) = (slp::walk(&unfilled[..cut]).unwrap(), slp::walk(&file[..cut]).unwrap());
+		assert_eq!(walked, slp::Walked { whole: false, ..whole });
+		assert_eq!(codes(&unfilled[..cut]), codes(&file[..cut]));
+		assert_eq!(slp::step_at(&unfilled[..cut], walked.place), Ok(Step::Cut));
+	}
+	assert_eq!(slp::walk(&unfilled), Err(Refused { number: 16, offset: end }));
+	assert_eq!(slp::walk(&unfilled[..first - 1]), Err(Refused { number: 15, offset: 15 }));
+	unfilled[14] = 1;
+	assert_eq!(slp::walk(&unfilled), Err(Refused { number: 15, offset: 15 }));
+}
+
 fn codes_of_cut(file: &[u8]) -> Vec<u8> {
 	let cut = codes(file);
 	let end = slp::step_at(file, slp::walk(file).unwrap().place);

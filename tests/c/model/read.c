@@ -22,9 +22,10 @@ static head read_head(const uint8_t *file, size_t len)
 	head h = { 0 };
 	if (len < 15 || memcmp(file, SIGNATURE, sizeof SIGNATURE) != 0)
 		return refused_head(14);
-	uint64_t end = 15 + ((uint64_t)file[11] << 24 | (uint64_t)file[12] << 16 | (uint64_t)file[13] << 8 | file[14]);
-	h.whole = end <= len;
-	h.stop = h.whole ? (size_t)end : len;
+	uint64_t declared = (uint64_t)file[11] << 24 | (uint64_t)file[12] << 16 | (uint64_t)file[13] << 8 | file[14];
+	/* a length of zero was never filled in: the data runs to the file's end, and more of it is missing */
+	h.whole = declared != 0 && declared <= len - 15;
+	h.stop = h.whole ? 15 + (size_t)declared : len;
 	if (h.stop < 17 || file[15] != 0x35 || file[16] % 3 != 1)
 		return refused_head(15);
 	h.first = 16 + (size_t)file[16];

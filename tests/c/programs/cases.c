@@ -71,6 +71,28 @@ static void case_5(void)
 	check_cut(350, 1, 0, 1);
 }
 
+static void check_zeroed(size_t at, unsigned refused, size_t offset, size_t events, size_t stray)
+{
+	CHECK_EQ(write_plan(smallest()).len, 351);
+	memset(out + 11, 0, 4);
+	slp_walked w = guarded_walk(out, at);
+	CHECK_EQ(w.refused, refused);
+	CHECK_EQ(w.offset, offset);
+	CHECK_EQ(w.events, events);
+	CHECK_EQ(w.stray, stray);
+	CHECK_EQ(w.whole, 0);
+}
+
+/* Case 1's file with a length that was never filled in: cases 2 to 5 again, always cut, and its tail's byte judged as an event. */
+static void unfilled(void)
+{
+	check_zeroed(28, 15, 15, 0, 0);
+	check_zeroed(29, 0, 0, 0, 0);
+	check_zeroed(349, 0, 0, 0, 320);
+	check_zeroed(350, 0, 0, 1, 0);
+	check_zeroed(351, 16, 350, 0, 0);
+}
+
 static void check_coded(int codes, uint32_t actual, size_t len)
 {
 	plan p = one_frame_plan();
@@ -174,5 +196,6 @@ int main(int argc, char **argv)
 	test("case 10", case_10);
 	test("case 11", case_11);
 	test("case 12", case_12);
+	test("case 1, unfilled", unfilled);
 	return finish();
 }

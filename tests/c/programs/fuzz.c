@@ -37,6 +37,12 @@ static void check_reader(const uint8_t *file, size_t len)
 	}
 }
 
+/* A length that was never filled in. */
+static void zero_length(uint8_t *file)
+{
+	memset(file + 11, 0, 4);
+}
+
 /* Random bytes, with more and more of a file's head before them. */
 static void random_files(void)
 {
@@ -52,6 +58,8 @@ static void random_files(void)
 			memset(file + 11, 0, 2);
 			file[13] = (uint8_t)below(2);
 		}
+		if (below(4) == 0)
+			zero_length(file);
 		if (kept_head == 16)
 			file[16] = (uint8_t)(3 * below(30) + 1);
 		check_reader(file, len);
@@ -65,7 +73,7 @@ static void random_tables(void)
 	uint8_t file[900] = { 0x7b, 0x55, 0x03, 0x72, 0x61, 0x77, 0x5b, 0x24, 0x55, 0x23, 0x6c };
 	forget();
 	for (size_t n = rounds(30000, 400); n; n--) {
-		size_t entries = below(85), first = below(256), declared = below(sizeof file);
+		size_t entries = below(85), first = below(256), declared = below(4) ? below(sizeof file) : below(2);
 		draw_bytes(file + 15, sizeof file - 15);
 		file[13] = (uint8_t)(declared >> 8);
 		file[14] = (uint8_t)declared;
@@ -149,6 +157,8 @@ static void flipped(void)
 			uint8_t was = f.bytes[at];
 			f.bytes[at] = (uint8_t)draw();
 			check_reader(f.bytes, below(3) ? f.len : below(f.len + 1));
+			if (k == 20 && below(2))
+				zero_length(f.bytes);
 			if (below(2))
 				f.bytes[at] = was;
 		}
@@ -157,7 +167,7 @@ static void flipped(void)
 }
 
 /* What a cut of a game's file should give, told by where its events end. */
-static void check_cut(const model_file *f, size_t cut)
+static slp_walked check_cut(const model_file *f, size_t cut)
 {
 	slp_walked w = guarded_walk(f->bytes, cut);
 	size_t first = 16 + (size_t)f->bytes[16], stop = cut < f->data_end ? cut : f->data_end, events = 0;
@@ -166,7 +176,7 @@ static void check_cut(const model_file *f, size_t cut)
 	if (cut < first) {
 		CHECK_EQ(w.refused, cut < 15 ? 14 : 15);
 		CHECK_EQ(w.offset, cut < 15 ? 0 : 15);
-		return;
+		return w;
 	}
 	while (events < f->events && f->ends[events] <= stop)
 		events++;
@@ -176,6 +186,26 @@ static void check_cut(const model_file *f, size_t cut)
 	CHECK_EQ(w.stray, stop - w.place);
 	CHECK_EQ(w.whole, cut >= f->data_end);
 	CHECK(same_walked(w, model_walk(f->bytes, cut)));
+	return w;
+}
+
+/* The same cut with a length that was never filled in: to the end of the event data the events and stray bytes of `w`, always cut; after
+ * that the tail's first byte is judged as an event, which no table lists. */
+static void check_unfilled_cut(model_file *f, size_t cut, slp_walked w)
+{
+	uint8_t length[4];
+	memcpy(length, f->bytes + 11, 4);
+	zero_length(f->bytes);
+	if (cut > f->data_end)
+		w = (slp_walked){ .refused = 16, .offset = f->data_end };
+	w.whole = 0;
+	CHECK(same_walked(guarded_walk(f->bytes, cut), w));
+	CHECK(same_walked(w, model_walk(f->bytes, cut)));
+	for (int i = 0; i < 2; i++) {
+		size_t place = i ? cut : below(cut + 20);
+		CHECK(same_step(guarded_step(f->bytes, cut, place), model_step(f->bytes, cut, place)));
+	}
+	memcpy(f->bytes + 11, length, 4);
 }
 
 static void every_cut(void)
@@ -189,7 +219,7 @@ static void every_cut(void)
 		made m = make_game(&p);
 		model_file f = checked_file(&m.in);
 		for (size_t cut = 0; cut <= f.len; cut++)
-			check_cut(&f, cut);
+			check_unfilled_cut(&f, cut, check_cut(&f, cut));
 		model_free(&f);
 		unmake(&m);
 	}

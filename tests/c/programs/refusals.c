@@ -575,8 +575,49 @@ static void heads(void)
 		check_walk((change(f, 16, (uint8_t)size), f), 28, size == 7 ? 0 : size == 1 || size == 4 ? 16 : 15,
 		           size == 7 ? 0 : size == 1 || size == 4 ? 16 + size : 15);
 	check_refused((change(f, 20, 0x36), f), 28, 15, 15);
-	for (uint8_t declared = 0; declared < 8; declared++)
+	for (uint8_t declared = 1; declared < 8; declared++)
 		check_refused((change(f, 14, declared), f), 28, 15, 15);
+}
+
+static void check_unfilled(const uint8_t *file, size_t len, size_t events, size_t place)
+{
+	slp_walked w = guarded_walk(file, len);
+	CHECK_EQ(w.refused, 0);
+	CHECK_EQ(w.whole, 0);
+	CHECK_EQ(w.events, events);
+	CHECK_EQ(w.place, place);
+	CHECK_EQ(w.stray, len - place);
+	slp_step s = guarded_step(file, len, place);
+	CHECK_EQ(s.kind, SLP_STEP_CUT);
+	check_step(file, len, len + 1, 17, len + 1);
+	check_step(file, len, 22, 17, 22);
+}
+
+/* A length of zero: events to the file's end, never whole; a table that is cut or damaged, and a code that it lacks, are refused as ever. */
+static void unfilled(void)
+{
+	uint8_t f[28];
+	change(f, 14, 0);
+	for (size_t len = 0; len < 23; len++)
+		check_refused(f, len, len < 15 ? 14 : 15, len < 15 ? 0 : 15);
+	for (size_t len = 23; len <= 28; len++)
+		check_unfilled(f, len, len >= 28 ? 2 : len >= 26 ? 1 : 0, len >= 28 ? 28 : len >= 26 ? 26 : 23);
+	f[22] = 2;
+	check_unfilled(f, 28, 1, 26);
+	f[26] = 0x40;
+	check_walk(f, 28, 16, 26);
+	check_walk(f, 27, 16, 26);
+	check_unfilled(f, 26, 1, 26);
+	f[20] = 0x36;
+	check_refused(f, 28, 15, 15);
+	for (size_t at = 11; at < 15; at++) {
+		change(f, 14, 0);
+		f[at] = 1;
+		if (at == 14)
+			check_refused(f, 28, 15, 15);
+		else
+			check_unfilled(f, 28, 2, 28);
+	}
 }
 
 static void events(void)
@@ -639,6 +680,7 @@ int main(int argc, char **argv)
 	test("12: short outputs", short_outputs);
 	test("12 and 13: masks", masks);
 	test("14 and 15: heads", heads);
+	test("15: a length never filled in", unfilled);
 	test("16 and 17: events", events);
 	test("14 to 17: the lowest", reader_order);
 	return finish();
