@@ -89,6 +89,7 @@ static void call_fod_platform_row(void) { kept = 1u + slp_fod_platform_row(game.
 static void call_dreamland_whispy_row(void) { kept = 1u + slp_dreamland_whispy_row(game.frames, SLP_STORES(&stores), 0).row.direction; }
 static void call_stadium_row(void) { kept = 1u + slp_stadium_transformation_row(game.frames, SLP_STORES(&stores), 0).row.type_id; }
 static void call_columns(void) { kept = 1u + slp_columns(game.frames.version, SLP_FAMILY_POST); }
+static void call_room(void) { kept = slp_room(slp_plan_of(&game, block.len, codes.len, metadata.len)).bytes; }
 static void call_first_place(void) { kept = slp_first_place(file, file_len); }
 
 /* What a call may take: a little more than it does, and less than it would with a block of 760 bytes besides. */
@@ -110,6 +111,7 @@ static const struct {
 	{ "slp_stadium_transformation_row", call_stadium_row, 3400 },
 	{ "slp_columns", call_columns, 800 },
 	{ "slp_first_place", call_first_place, 256 },
+	{ "slp_room", call_room, 1500 },
 };
 
 enum { ALL_CALLS = sizeof CALLS / sizeof *CALLS };

@@ -37,7 +37,7 @@ enum {
 	/* presence: a slot's bits neither empty nor ceil(frames / 8) bytes, a follower's bits without a follower, or another total of bytes than the
 	 * slots' */
 	SLP_BAD_PRESENCE = 6,
-	/* over four port columns, a port above 3, or a port twice */
+	/* over four port columns, a port above 3, or a port twice; room: over eight slots */
 	SLP_BAD_PORTS = 7,
 	/* start block shorter than the version's length, or over 65,535 */
 	SLP_BAD_BLOCK = 8,
@@ -478,17 +478,6 @@ slp_written slp_write(uint8_t *out, size_t out_len, slp_game game,
                       const uint8_t *codes, size_t codes_len,
                       const uint8_t *metadata, size_t metadata_len);
 
-/* Room for the file of any game whose counts are within the maxima: what a file of the newest version takes with all its players present. Most
- * files are shorter; slp_write says how long a file is. */
-static inline size_t slp_room(const slp_game *game, size_t template_len, size_t codes_len, size_t metadata_len)
-{
-	const slp_counts *n = &game->frames.counts;
-	size_t slots = 2 * (game->frames.port_count < 4 ? game->frames.port_count : 4);
-
-	return 81 + template_len + codes_len / 512 * 517 + metadata_len + n->frames * (22 + 152 * slots) + n->items * 45 + n->fods * 10
-	       + n->whispys * 6 + n->stadiums * 9;
-}
-
 /* As slp_write.
  *
  *     slp_game game = { .frames = { .version = { 0, 1, 0 } } };    // no frames, no end
@@ -502,6 +491,52 @@ static inline slp_written slp_write_game(uint8_t *out, size_t out_len, const slp
 {
 	return slp_write(out, out_len, *game, SLP_STORES(s), template_block.p, template_block.len, codes.p, codes.len, metadata.p,
 	                 metadata.len);
+}
+
+/* ======== how much room to reserve ======== */
+
+/* What a file will have at most. */
+typedef struct {
+	slp_version version;
+	size_t block;        /* bytes of the start block */
+	size_t slots;        /* players, followers among them: at most eight */
+	slp_counts counts;
+	size_t codes;        /* bytes of the padded codes */
+	size_t metadata;     /* bytes of the metadata's body */
+} slp_plan;
+
+typedef struct {
+	uint8_t refused;   /* 0, or 1, 2, 7 for more than eight slots, or 8 */
+	size_t bytes;      /* 0 on a refusal, and at most SLP_MAX_ROOM */
+} slp_reserved;
+
+#define SLP_MAX_ROOM 1530167375u
+
+/* The bytes that no file of this version exceeds, if its block, its slots and all its counts are at most these. A game of exactly these counts takes
+ * all of them where everybody is present in every frame, the end is doubled, metadata is given, and codes are given if the version has them. Rows
+ * and codes that the version lacks count nothing, nor do rows without frames; code bytes are rounded down to blocks of 512. Refusal 2 is judged on the
+ * numbers as they are, also for rows and codes that the version lacks.
+ *
+ *     slp_plan plan = { .version = { 3, 18, 0 }, .block = 760, .slots = 2, .counts = { .frames = 28800, .items = 20000 } };
+ *     slp_reserved r = slp_room(plan);    // eight minutes of two players: r.bytes is 10289641
+ */
+slp_reserved slp_room(slp_plan plan);
+
+/* The counts of a game as a plan: slp_room of it is enough for its file. Codes and metadata that are not given have no bytes. */
+static inline slp_plan slp_plan_of(const slp_game *game, size_t template_len, size_t codes_len, size_t metadata_len)
+{
+	slp_plan plan;
+	size_t ports = game->frames.port_count < 4 ? game->frames.port_count : 4;
+
+	plan.version = game->frames.version;
+	plan.block = template_len;
+	plan.slots = ports;
+	for (size_t k = 0; k < ports; k++)
+		plan.slots += game->frames.ports[k].follower != 0;
+	plan.counts = game->frames.counts;
+	plan.codes = game->codes_given ? codes_len : 0;
+	plan.metadata = game->metadata_given ? metadata_len : 0;
+	return plan;
 }
 
 /* ======== rows ========

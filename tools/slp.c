@@ -1,4 +1,4 @@
-/* slp: walks Slippi replays, lists their events, writes a small one. */
+/* slp: walks Slippi replays, lists their events, writes a small one, says how much room to reserve. */
 #include <errno.h>
 #include <stdio.h>
 #include <string.h>
@@ -12,6 +12,7 @@ static const char HELP[] =
 	"                      with several files after 'FILE: '\n"
 	"  slp events FILE     how many events of each code a replay has, and their bytes\n"
 	"  slp demo FILE       writes a small game and walks it; FILE must not exist yet\n"
+	"  slp room OPTION..   how many bytes to reserve for a replay before its match is known\n"
 	"  slp help            this text (also --help, -h)\n"
 	"  slp version         the tool's version, and the newest replay version (also --version)\n"
 	"\n"
@@ -19,15 +20,29 @@ static const char HELP[] =
 	"\n"
 	"  --progress=WHEN     a bar on standard error: auto (on a terminal, from 64 MB on), always, never\n"
 	"\n"
+	"What room is asked for, as --NAME=NUMBER; all but replay and block are 0 where they are not given:\n"
+	"\n"
+	"  --replay=VERSION    the replay's version, as 3.18.0 (where it is not given, that)\n"
+	"  --block=BYTES       of the start block (where it is not given, the version's own length)\n"
+	"  --slots=N           players, followers among them: at most 8\n"
+	"  --frames=N          60 a second\n"
+	"  --items=N --fods=N --whispys=N --stadiums=N\n"
+	"                      rows of items, and of each stage family\n"
+	"  --codes=BYTES --metadata=BYTES\n"
+	"                      of the padded cheat codes, and of the metadata's body\n"
+	"\n"
+	"No replay of that version with at most these counts is longer than what room answers.\n"
+	"\n"
 	"EVENTS counts the whole events after the table of payload sizes, STRAY the bytes after the last of\n"
 	"them; whole means that all declared bytes are there. Reasons in words go to standard error. A length\n"
 	"of zero was never filled in: such a replay is read to its end, and is cut.\n"
 	"\n"
-	"Exit status: 0 if all went well and every replay is whole; 1 if a replay was refused or cut, or a file\n"
-	"could not be read or written; 2 for wrong usage.\n";
+	"Exit status: 0 if all went well and every replay is whole; 1 if a replay or a plan was refused, a replay\n"
+	"cut, or a file could not be read or written; 2 for wrong usage.\n";
 
 typedef struct {
 	int progress, help, version;
+	room_wish room;
 	char **operands;
 	int count;
 } arguments;
@@ -49,6 +64,15 @@ static int parse_progress(const char *when, arguments *a)
 	return wrong_usage("--progress is auto, always or never, not", when);
 }
 
+static int parse_room(const char *option, arguments *a)
+{
+	switch (room_option(option, &a->room)) {
+	case WELL: return WELL;
+	case FAILED: return wrong_usage(strncmp(option, "--replay=", 9) == 0 ? "not a version, as 3.18.0 is:" : "not a number, or too large:", option);
+	default: return wrong_usage("unknown option", option);
+	}
+}
+
 static int parse_option(const char *option, arguments *a)
 {
 	if (strcmp(option, "--help") == 0 || strcmp(option, "-h") == 0)
@@ -58,7 +82,7 @@ static int parse_option(const char *option, arguments *a)
 	else if (strncmp(option, "--progress=", 11) == 0)
 		return parse_progress(option + 11, a);
 	else
-		return wrong_usage("unknown option", option);
+		return parse_room(option, a);
 	return WELL;
 }
 
@@ -102,6 +126,10 @@ static int run(const arguments *a)
 	const char *command = a->operands[0];
 	char **files = a->operands + 1;
 	int count = a->count - 1;
+	if (strcmp(command, "room") == 0)
+		return count ? wrong_usage("room takes options alone, not", files[0]) : show_room(a->room);
+	if (a->room.given)
+		return wrong_usage("the options of room are not for", command);
 	if (strcmp(command, "help") == 0)
 		return print_help();
 	if (strcmp(command, "version") == 0)
@@ -117,7 +145,7 @@ static int run(const arguments *a)
 
 int main(int argc, char **argv)
 {
-	arguments a = { 0 };
+	arguments a = { .room = { .plan = { .version = { 3, 18, 0 } } } };
 	int status = parse(argc, argv, &a);
 	if (status == WELL)
 		status = run(&a);

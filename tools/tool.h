@@ -56,4 +56,18 @@ int walk_files(char **paths, int count, int progress);
 int show_events(const char *path, int progress);
 int write_demo(const char *path);
 
+/* ---- room.c */
+
+/* What is asked of `slp room`: the plan, whether any of its options was given, and whether its block was. */
+typedef struct {
+	slp_plan plan;
+	int given, block_given;
+} room_wish;
+
+enum { NOT_OURS = 3 };
+
+/* Takes --NAME=VALUE into a wish: WELL, FAILED for a value that is none, NOT_OURS for another option. */
+int room_option(const char *option, room_wish *w);
+int show_room(room_wish w);
+
 #endif

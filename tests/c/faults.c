@@ -13,6 +13,7 @@ uint8_t real_slp_rollbacks(const uint32_t *ids, size_t ids_len, uint8_t keep, ui
                            size_t scratch_len);
 slp_written real_slp_write(uint8_t *out, size_t out_len, slp_game game, SLP_STORE_PARAMETERS, const uint8_t *template_block,
                            size_t template_len, const uint8_t *codes, size_t codes_len, const uint8_t *metadata, size_t metadata_len);
+slp_reserved real_slp_room(slp_plan plan);
 slp_frame_answer real_slp_frame_row(slp_frames frames, SLP_STORE_PARAMETERS, size_t index);
 slp_post_answer real_slp_post_row(slp_frames frames, SLP_STORE_PARAMETERS, size_t slot, size_t index);
 
@@ -248,4 +249,34 @@ slp_post_answer slp_post_row(slp_frames frames, SLP_STORE_PARAMETERS, size_t slo
 	if (faulty("post-outside") && presence_len)
 		spoil(presence + presence_len);
 	return a;
+}
+
+slp_reserved slp_room(slp_plan plan)
+{
+	slp_version v = plan.version;
+	if (faulty("room-codes"))
+		plan.codes = (plan.codes + 511) / 512 * 512;
+	slp_reserved r = real_slp_room(plan);
+	if (r.refused) {
+		if (faulty("room-slots") && r.refused == 7)
+			r = (slp_reserved){ 0, 1 };
+		if (faulty("room-order") && plan.slots > 8)
+			r.refused = 7;
+		if (faulty("room-lacking") && r.refused == 2 && v.major < 3)
+			r.refused = plan.counts.items > SLP_MAX_ITEMS ? 0 : 2;
+		if (faulty("room-bytes"))
+			r.bytes = 1;
+		return r;
+	}
+	if (faulty("room-items"))
+		r.bytes += v.major < 3 && plan.counts.frames ? 38 * plan.counts.items : 0;
+	if (faulty("room-frames"))
+		r.bytes += v.major == 3 && !plan.counts.frames ? 38 * plan.counts.items : 0;
+	if (faulty("room-end"))
+		r.bytes -= v.major < 2 ? 2 : 0;
+	if (faulty("room-short"))
+		r.bytes -= plan.slots == 8;
+	if (faulty("room-wraps"))
+		r.bytes %= 1u << 30;
+	return r;
 }

@@ -47,6 +47,15 @@ static void write_and_read(void)
 	walk_through(out, 28);
 }
 
+/* ---- room */
+
+static void reserve(void)
+{
+	slp_plan plan = { .version = { 3, 18, 0 }, .block = 760, .slots = 2, .counts = { .frames = 28800, .items = 20000 } };
+	slp_reserved r = slp_room(plan);    // eight minutes of two players: r.bytes is 10289641
+	printf("room %zu, refused %u\n", r.bytes, r.refused);
+}
+
 /* ---- rows */
 
 static void show_frame(slp_game game, slp_stores stores)
@@ -100,6 +109,7 @@ int main(void)
 {
 	mask_frames();
 	write_and_read();
+	reserve();
 	show_rows();
 	return 0;
 }

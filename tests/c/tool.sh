@@ -145,6 +145,31 @@ run events empty.slp
 run events missing.slp
 run events directory
 
+# ---- room
+guarded room --slots=2 --frames=28800 --items=20000
+run room
+run room --replay=0.1 --block=320 --slots=1 --frames=1 --items=9 --codes=1024
+run room --replay=3.3.0 --codes=511
+run room --replay=3.3.0 --codes=512 --metadata=65535
+run room --block=65535 --slots=8 --frames=1048576 --items=4194304 --fods=1048576 --whispys=1048576 --stadiums=1048576 --codes=16777216 --metadata=65535
+run room --replay=3.18.1
+run room --frames=1048577
+run room --frames=18446744073709551615
+run room --slots=9
+run room --block=759
+run room --frames=18446744073709551616
+run room --frames=-1
+run room --frames=
+run room --frames=12x
+run room --replay=3
+run room --replay=3.18.
+run room --replay=3.256.0
+run room --replay=3.18.0.1
+run room --frobs=1
+run room --frames
+run room game.slp
+run walk --frames=1 game.slp
+
 # ---- progress
 run --progress=never walk game.slp
 run --progress=auto walk game.slp

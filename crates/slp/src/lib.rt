@@ -4,4 +4,5 @@ pub mod columns;
 pub mod frame_rows;
 pub mod mask;
 pub mod reader;
+pub mod reserve;
 pub mod writer;

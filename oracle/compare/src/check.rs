@@ -63,7 +63,13 @@ fn check_file(case: &Case, game: &Game, counts: &mut Counts) -> Option<String> {
 	if let Some(at) = (0..theirs.len()).find(|&i| out[i] != theirs[i]) {
 		return Some(format!("byte {at} of the files: ours {:02x}, the Rust's {:02x}", out[at], theirs[at]));
 	}
-	check_short(case, theirs.len() - 1).or_else(|| check_walk(&theirs))
+	check_short(case, theirs.len() - 1).or_else(|| check_walk(&theirs)).or_else(|| check_room(case, theirs.len()))
+}
+
+/// The room of the game's own counts is enough for the Rust's file.
+fn check_room(case: &Case, len: usize) -> Option<String> {
+	let room = slp::room(&slp::Plan::of(&case.game, &case.stores()));
+	(!matches!(room, Ok(bytes) if len <= bytes)).then(|| format!("the Rust's file has {len} bytes, the room for it: {room:?}"))
 }
 
 /// An output that is one byte short is refused and stays.

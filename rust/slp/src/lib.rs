@@ -28,18 +28,22 @@ mod records;
 mod refusals;
 mod stores;
 
+mod plan;
 mod raw;
 
 pub mod columns;
 mod masks;
 mod reader;
+mod room;
 pub mod rows;
 mod write;
 
 pub use columns::Family;
 pub use game::*;
 pub use masks::{rollbacks, scratch_len, Rollbacks};
+pub use plan::Plan;
 pub use reader::{first_place, step_at, walk, Refused, Step, Walked};
 pub use refusals::refusal_words;
+pub use room::{room, MAX_ROOM};
 pub use stores::Stores;
 pub use write::write;

@@ -2,6 +2,7 @@
 
 use crate::{
 	game::{Frames, Game, Version},
+	plan::Plan,
 	records,
 };
 
@@ -34,6 +35,12 @@ pub struct Written {
 }
 
 #[repr(C)]
+pub struct Reserved {
+	pub refused: u8,
+	pub bytes: usize,
+}
+
+#[repr(C)]
 pub struct Answer<T> {
 	pub refused: u8,
 	pub row: T,
@@ -47,6 +54,8 @@ extern "C" {
 	pub fn slp_step_at(file: *const u8, file_len: usize, place: usize) -> Step;
 
 	pub fn slp_walk(file: *const u8, file_len: usize) -> Walked;
+
+	pub fn slp_room(plan: Plan) -> Reserved;
 
 	pub fn slp_rollbacks(
 		ids: *const u32,

@@ -9,7 +9,7 @@ const WORDS: [&str; 18] = [
 	"a cell exceeds its column's width",
 	"offsets do not lead through the rows, or the version has no such rows",
 	"presence bits do not match the frames",
-	"there are over four ports, a port above 3, or a port twice",
+	"there are over four ports or eight slots, a port above 3, or a port twice",
 	"the start block is too short for the version, or over 65,535 bytes",
 	"a start field is missing, a player type or text is out of its limits, or a text has a zero inside",
 	"cheat codes before 3.3, or not padded to blocks of 512 bytes",

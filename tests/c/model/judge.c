@@ -4,17 +4,15 @@
 #include "columns.h"
 #include "model.h"
 
-static int too_new(slp_version v)
+int too_new(slp_version v)
 {
 	return v.major > 3 || (v.major == 3 && (v.minor > 18 || (v.minor == 18 && v.patch > 0)));
 }
 
-static int too_many(const input *in)
+int too_many(const slp_counts *c, size_t codes, size_t metadata)
 {
-	const slp_counts *c = &in->game.frames.counts;
 	return c->frames > SLP_MAX_FRAMES || c->items > SLP_MAX_ITEMS || c->fods > SLP_MAX_STAGE_ROWS || c->whispys > SLP_MAX_STAGE_ROWS ||
-	       c->stadiums > SLP_MAX_STAGE_ROWS || (in->game.codes_given && in->codes.len > SLP_MAX_CODES) ||
-	       (in->game.metadata_given && in->metadata.len > SLP_MAX_METADATA);
+	       c->stadiums > SLP_MAX_STAGE_ROWS || codes > SLP_MAX_CODES || metadata > SLP_MAX_METADATA;
 }
 
 static size_t port_columns(const slp_frames *f)
@@ -172,7 +170,7 @@ unsigned model_refusal(const input *in)
 	slp_version v = g->frames.version;
 	if (too_new(v))
 		return 1;
-	if (too_many(in))
+	if (too_many(&in->game.frames.counts, in->game.codes_given ? in->codes.len : 0, in->game.metadata_given ? in->metadata.len : 0))
 		return 2;
 	if (bad_store(in))
 		return 3;

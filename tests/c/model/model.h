@@ -14,11 +14,16 @@ typedef struct {
 
 /* How many slots a game has; of more than four port columns, which are refused, the first four count. */
 size_t slots_of(const slp_frames *f);
+/* Refusals 1 and 2. */
+int too_new(slp_version v);
+int too_many(const slp_counts *c, size_t codes, size_t metadata);
 /* Refusals 1 to 11 of a game, or 0. */
 unsigned model_refusal(const input *in);
 /* The file of a game that is not refused. */
 model_file model_write(const input *in);
 void model_free(model_file *f);
+/* The room of a plan. */
+slp_reserved model_room(const slp_plan *p);
 
 slp_step model_step(const uint8_t *file, size_t len, size_t place);
 slp_walked model_walk(const uint8_t *file, size_t len);

@@ -309,24 +309,6 @@ static void damaged_games(void)
 	check_met(0, 12);
 }
 
-/* The room that the header names is just what the fullest game takes. */
-static void room(void)
-{
-	plan p = rich_plan();
-	p.ports = 4;
-	p.followers = 15;
-	p.presence = 0;
-	p.double_end = 1;
-	made m = make_game(&p);
-	size_t most = slp_room(&m.in.game, m.in.block.len, m.in.codes.len, m.in.metadata.len);
-	uint8_t *fresh = malloc(most);
-	slp_written w = guarded_write(&m.in, fresh, most);
-	CHECK_EQ(w.refused, 0);
-	CHECK_EQ(w.len, most);
-	free(fresh);
-	unmake(&m);
-}
-
 int main(int argc, char **argv)
 {
 	begin("fuzz", argc, argv);
@@ -339,6 +321,5 @@ int main(int argc, char **argv)
 	test("every step", every_step);
 	test("masks", masks);
 	test("damaged games", damaged_games);
-	test("room", room);
 	return finish();
 }

@@ -22,6 +22,9 @@ _Static_assert(sizeof(slp_match) == 80 && sizeof(slp_start) == 1408 && offsetof(
 _Static_assert(sizeof(slp_end) == 11, "slp_end");
 _Static_assert(sizeof(slp_game) == 1584 && offsetof(slp_game, start) == 152 && offsetof(slp_game, end) == 1560 &&
                offsetof(slp_game, double_end) == 1571 && offsetof(slp_game, actual_size) == 1576, "slp_game");
+_Static_assert(sizeof(slp_plan) == 80 && offsetof(slp_plan, block) == 8 && offsetof(slp_plan, counts) == 24 && offsetof(slp_plan, codes) == 64 &&
+               offsetof(slp_plan, metadata) == 72, "slp_plan");
+_Static_assert(sizeof(slp_reserved) == 16 && offsetof(slp_reserved, bytes) == 8, "slp_reserved");
 
 _Static_assert(sizeof(slp_pre) == 200 && offsetof(slp_pre, present) == 3 && offsetof(slp_pre, bits) == 4 && offsetof(slp_pre, random_seed) == 132, "slp_pre");
 _Static_assert(sizeof(slp_post) == 216 && offsetof(slp_post, present) == 3 && offsetof(slp_post, state_flags) == 164 && offsetof(slp_post, instance_id) == 214, "slp_post");
@@ -59,6 +62,7 @@ static void stores_in_order(void)
 	CHECK_EQ(a.len, 990 - 7);
 	CHECK_EQ(b.refused, a.refused);
 	CHECK_EQ(b.len, a.len);
+	CHECK_EQ(slp_room(slp_plan_of(&g, 760, 0, 0)).bytes, a.len + 2 * 7 + 12 + 6);
 	CHECK_EQ(slp_frame_row(g.frames, SLP_STORES(&s), 0).refused, 0);
 	CHECK_EQ(slp_post_row(g.frames, SLP_STORES(&s), 1, 0).refused, 13);
 }

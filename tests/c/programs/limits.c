@@ -104,6 +104,7 @@ static void check_accepted(const input *in, size_t len, size_t events)
 	slp_written w = write_to(in, out, len);
 	CHECK_EQ(w.refused, 0);
 	CHECK_EQ(w.len, len);
+	check_room(in, len);
 	slp_walked k = slp_walk(out, len);
 	CHECK_EQ(k.refused, 0);
 	CHECK_EQ(k.events, events);

@@ -44,6 +44,8 @@ static int one_turn(size_t i, uint8_t *out)
 	slp_written w = slp_write_game(out, f->len, &in->game, &in->stores, in->block, in->codes, in->metadata);
 	if (w.refused || w.len != f->len || memcmp(out, f->bytes, f->len) != 0)
 		return 0;
+	if (slp_room(slp_plan_of(&in->game, in->block.len, in->codes.len, in->metadata.len)).bytes < w.len)
+		return 0;
 	slp_walked k = slp_walk(f->bytes, f->len);
 	slp_step s = slp_step_at(f->bytes, f->len, k.place);
 	uint8_t mask[64], scratch[256];

@@ -103,6 +103,13 @@ void take_back(loan loans[LOANS])
 	}
 }
 
+void check_room(const input *in, size_t len)
+{
+	slp_reserved r = slp_room(slp_plan_of(&in->game, in->block.len, in->codes.len, in->metadata.len));
+	CHECK_EQ(r.refused, 0);
+	CHECK(len <= r.bytes);
+}
+
 slp_written guarded_write(const input *in, uint8_t *out, size_t out_len)
 {
 	input lent = *in;
@@ -115,7 +122,7 @@ slp_written guarded_write(const input *in, uint8_t *out, size_t out_len)
 	CHECK(w.refused <= 12);
 	CHECK(w.refused ? w.len == 0 : w.len <= out_len);
 	if (!w.refused)
-		CHECK(w.len <= slp_room(&in->game, in->block.len, in->codes.len, in->metadata.len));
+		check_room(in, w.len);
 	CHECK(kept(&o, w.len));
 	if (out_len)
 		memcpy(out, o.base + o.front, out_len);

@@ -35,6 +35,8 @@ void lend_input(input *in, loan loans[LOANS]);
 /* Checks that all of them are as they were, and gives them back. */
 void take_back(loan loans[LOANS]);
 
+/* The library's room for a game's own counts is enough for its file of `len` bytes. */
+void check_room(const input *in, size_t len);
 slp_written guarded_write(const input *in, uint8_t *out, size_t out_len);
 uint8_t guarded_rollbacks(const uint32_t *ids, size_t ids_len, uint8_t keep, uint8_t *mask, size_t mask_len, uint8_t *scratch,
                           size_t scratch_len);

@@ -1,0 +1,4 @@
+pub mod Parts
+pub mod Enough
+pub mod Largest
+pub mod Twelve

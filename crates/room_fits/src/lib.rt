@@ -1,0 +1,1 @@
+// That room is enough: theorems about every file that the writer gives, and no code.

@@ -1,0 +1,93 @@
+/* slp room: how much room to reserve for a replay. */
+#include <ctype.h>
+#include <errno.h>
+#include <stdio.h>
+#include <stdlib.h>
+#include <string.h>
+
+#include "tool.h"
+
+/* The numbers of a plan, by the names of their options. */
+enum { NUMBERS = 9 };
+
+static const char *const NAMES[NUMBERS] = { "block", "slots", "frames", "items", "fods", "whispys", "stadiums", "codes", "metadata" };
+static const char *const UNITS[NUMBERS] = { " bytes", "", "", " rows", " rows", " rows", " rows", " bytes", " bytes" };
+
+static size_t *number(slp_plan *p, size_t k)
+{
+	size_t *all[NUMBERS] = { &p->block, &p->slots, &p->counts.frames, &p->counts.items, &p->counts.fods, &p->counts.whispys, &p->counts.stadiums,
+	                         &p->codes, &p->metadata };
+	return all[k];
+}
+
+/* Digits alone, and no more than a number holds. */
+static int parse_number(const char *text, size_t *to)
+{
+	char *end;
+	errno = 0;
+	unsigned long long n = strtoull(text, &end, 10);
+	if (!isdigit((unsigned char)*text) || *end || errno)
+		return FAILED;
+	*to = (size_t)n;
+	return WELL;
+}
+
+/* MAJOR.MINOR or MAJOR.MINOR.PATCH, each at most 255. */
+static int parse_version(const char *text, slp_version *v)
+{
+	unsigned a, b, c = 0;
+	int two = 0, three = 0;
+	if (!isdigit((unsigned char)*text) || strspn(text, "0123456789.") != strlen(text) || strlen(text) > 11)
+		return FAILED;
+	if (sscanf(text, "%u.%u%n.%u%n", &a, &b, &two, &c, &three) < 2 || (text[two] && text[three ? three : two]))
+		return FAILED;
+	if (a > 255 || b > 255 || c > 255)
+		return FAILED;
+	*v = (slp_version){ (uint8_t)a, (uint8_t)b, (uint8_t)c };
+	return WELL;
+}
+
+int room_option(const char *option, room_wish *w)
+{
+	const char *value = strchr(option, '=');
+	if (strncmp(option, "--", 2) != 0 || !value)
+		return NOT_OURS;
+	size_t len = (size_t)(value - option) - 2;
+	if (len == 6 && strncmp(option + 2, "replay", len) == 0) {
+		w->given = 1;
+		return parse_version(value + 1, &w->plan.version);
+	}
+	for (size_t k = 0; k < NUMBERS; k++)
+		if (strlen(NAMES[k]) == len && strncmp(option + 2, NAMES[k], len) == 0) {
+			w->given = 1;
+			w->block_given |= k == 0;
+			return parse_number(value + 1, number(&w->plan, k));
+		}
+	return NOT_OURS;
+}
+
+/* The version's own length: the shortest block that is not refused 8. */
+static size_t shortest_block(slp_plan p)
+{
+	for (p.block = 0; p.block < 65535; p.block++)
+		if (slp_room(p).refused != SLP_BAD_BLOCK)
+			break;
+	return p.block;
+}
+
+int show_room(room_wish w)
+{
+	slp_plan *p = &w.plan;
+	if (!w.block_given)
+		p->block = shortest_block(*p);
+	slp_reserved r = slp_room(*p);
+	if (r.refused) {
+		complain("room", "refused %u: %s", r.refused, refusal_words(r.refused));
+		return FAILED;
+	}
+	printf("reserve %zu bytes\n", r.bytes);
+	printf("  %-9s %u.%u.%u\n", "replay", p->version.major, p->version.minor, p->version.patch);
+	for (size_t k = 0; k < NUMBERS; k++)
+		printf("  %-9s %zu%s\n", NAMES[k], *number(p, k), UNITS[k]);
+	return WELL;
+}
