@@ -23,7 +23,7 @@ PROGRAMS := $(basename $(notdir $(wildcard tests/c/programs/*.c tests/c/programs
 SHARED_OBJECTS := $(patsubst %.c,target/c/%.o,$(wildcard tests/c/shared/*.c tests/c/model/*.c))
 EXAMPLES := $(basename $(notdir $(wildcard examples/*.c)))
 # Programs that must fail over a library with a fault.
-FAULTED := cases refusals fuzz rows eights layout room stack
+FAULTED := cases refusals fuzz rows eights layout room apart stack
 TESTS := $(PROGRAMS:%=target/c/bin/%) target/c/bin/header_examples target/c/bin/stack $(EXAMPLES:%=target/c/examples/%) $(FAULTED:%=target/c/faults/%)
 
 .PHONY: all lib tests test test-rust examples install uninstall clean help always

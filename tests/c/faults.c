@@ -173,6 +173,17 @@ static const uint32_t *late_from_eighth(const uint32_t *offsets, size_t len)
 	return copy;
 }
 
+/* The last slot's last cell is the low byte of the first slot's first one. The changed store is a copy. */
+static const uint32_t *neighbours(const uint32_t *cells, size_t len)
+{
+	static uint32_t copy[1 << 14];
+	if (!faulty("write-neighbour") || len == 0 || len > sizeof copy / sizeof *copy)
+		return cells;
+	memcpy(copy, cells, 4 * len);
+	copy[len - 1] = cells[0] & 255;
+	return copy;
+}
+
 /* A game that the fault takes for another. */
 static slp_game misread(slp_game g)
 {
@@ -207,6 +218,7 @@ slp_written slp_write(uint8_t *out, size_t out_len, slp_game game, SLP_STORE_PAR
 {
 	presence = present_in_eighth(&game.frames, presence, presence_len);
 	item_offsets = late_from_eighth(item_offsets, item_offsets_len);
+	pres = neighbours(pres, pres_len);
 	template_block = copied(template_block, template_len, alloca(copied_len(template_len)));
 	slp_written w = real_slp_write(out, out_len, misread(game), STORES, template_block, template_len, codes, codes_len, metadata,
 	                               metadata_len);
@@ -224,6 +236,8 @@ slp_frame_answer slp_frame_row(slp_frames frames, SLP_STORE_PARAMETERS, size_t i
 		a.row.ports[0].follower.present = a.row.ports[0].follower.pre.present = a.row.ports[0].follower.post.present = a.row.ports[0].leader.present;
 	if (faulty("frame-marks"))
 		a.row.ports[1].leader.post.present ^= a.row.port_count > 1;
+	if (faulty("frame-neighbour") && a.row.port_count > 1)
+		a.row.ports[1].leader.post = a.row.ports[0].leader.post;
 	if (faulty("frame-range"))
 		a.row.stadium_transformations.first++;
 	if (faulty("frame-refused"))

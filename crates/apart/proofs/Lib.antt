@@ -1,0 +1,5 @@
+pub mod Besides
+pub mod Players
+pub mod Files
+pub mod Rows
+pub mod Pair
