@@ -81,6 +81,8 @@ static void call_write(void) { kept = slp_write_game(out, sizeof out, &game, &st
 static void call_walk(void) { kept = slp_walk(file, file_len).events; }
 static void call_step_at(void) { kept = slp_step_at(file, file_len, slp_first_place(file, file_len)).next; }
 static void call_rollbacks(void) { kept = 1u - slp_rollbacks(ids, game.frames.counts.frames, SLP_EXCEPT_LAST, mask, sizeof mask, scratch, sizeof scratch); }
+static void call_write_frames(void) { kept = 1u + slp_write_frames(out, sizeof out, 0, game.frames, SLP_STORES(&stores), 0, game.frames.counts.frames).end; }
+static void call_write_frame(void) { kept = 1u + slp_write_frame(out, sizeof out, 0, game.frames, SLP_STORES(&stores), 0).end; }
 static void call_frame_row(void) { kept = 1u + slp_frame_row(game.frames, SLP_STORES(&stores), 0).row.port_count; }
 static void call_pre_row(void) { kept = 1u + slp_pre_row(game.frames, SLP_STORES(&stores), 0, 0).row.state; }
 static void call_post_row(void) { kept = 1u + slp_post_row(game.frames, SLP_STORES(&stores), 0, 0).row.state; }
@@ -99,6 +101,8 @@ static const struct {
 	size_t most;
 } CALLS[] = {
 	{ "slp_write", call_write, 8600 },
+	{ "slp_write_frames", call_write_frames, 4900 },
+	{ "slp_write_frame", call_write_frame, 4900 },
 	{ "slp_walk", call_walk, 2800 },
 	{ "slp_step_at", call_step_at, 2800 },
 	{ "slp_rollbacks", call_rollbacks, 256 },

@@ -48,10 +48,10 @@ enum {
 	SLP_BAD_CODES = 10,
 	/* double end without an end, or, from 2.0, an end's initiator outside -1..3 */
 	SLP_BAD_END = 11,
-	/* output, mask or scratch too short */
+	/* output, mask or scratch too short; run of frames: also a place beyond the output */
 	SLP_SHORT_OUTPUT = 12,
 	/* mask: an id below -123 or above 1,048,452; row: an index not below frames or, for a family's own row, its rows; or a slot that is
-	 * not there */
+	 * not there; run of frames: a range that is reversed or ends beyond the frames */
 	SLP_OUT_OF_RANGE = 13,
 	/* reader, offset 0: under 15 bytes or wrong signature */
 	SLP_NOT_A_REPLAY = 14,
@@ -538,6 +538,23 @@ static inline slp_plan slp_plan_of(const slp_game *game, size_t template_len, si
 	plan.metadata = game->metadata_given ? metadata_len : 0;
 	return plan;
 }
+
+typedef struct {
+	uint8_t refused;   /* 0, or 1 to 7, 13 or 12, judged in that order */
+	size_t end;        /* the place after the last byte that was written; 0 on a refusal */
+} slp_appended;
+
+/* The events of the frames from `a` on and before `b`, at `place` of `out`, as they stand in the file of the game: what a live recorder appends. Bytes
+ * before the place and from the end place on stay. An empty run (a and b the same) is accepted at every place up to `out_len` and writes nothing. All
+ * stores are judged, so a recorder lends the frames that it has finished since the last call as a small game of their own.
+ *
+ *     slp_appended r = slp_write_frames(out, sizeof out, place, game.frames, SLP_STORES(&stores), 0, game.frames.counts.frames);
+ *     if (!r.refused) place = r.end;    // where the next run goes
+ */
+slp_appended slp_write_frames(uint8_t *out, size_t out_len, size_t place, slp_frames frames, SLP_STORE_PARAMETERS, size_t a, size_t b);
+
+/* Frame `i` alone: the run from i up to i + 1. */
+slp_appended slp_write_frame(uint8_t *out, size_t out_len, size_t place, slp_frames frames, SLP_STORE_PARAMETERS, size_t i);
 
 /* ======== rows ========
  *

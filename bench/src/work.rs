@@ -14,6 +14,8 @@ pub const WHAT: &[&str] = &[
 	"write: Rust to a Vec with room",
 	"write: libslp",
 	"write: copy of the bytes",
+	"run of 1,000 frames: libslp",
+	"run of no frames: libslp",
 	"mask, except first: Rust",
 	"mask, except first: libslp",
 	"mask, except last: libslp",
@@ -90,6 +92,8 @@ impl Work {
 	pub fn units(&self, what: &str) -> usize {
 		if what.starts_with("walk") {
 			self.events
+		} else if what.starts_with("run of 1,000") {
+			1_000
 		} else {
 			self.case.ids.len()
 		}
@@ -111,6 +115,13 @@ impl Work {
 			}
 			"write: libslp" => drop(black_box(slp::write(&self.case.game, &self.case.stores(), &mut self.fixed))),
 			"write: copy of the bytes" => self.fixed.copy_from_slice(black_box(&self.file)),
+			// in the midst of the game; and all that is judged before one
+			"run of 1,000 frames: libslp" => {
+				drop(black_box(slp::write_frames(&self.case.game.frames, &self.case.stores(), &mut self.fixed, 0, 500..1_500)))
+			}
+			"run of no frames: libslp" => {
+				drop(black_box(slp::write_frames(&self.case.game.frames, &self.case.stores(), &mut self.fixed, 0, 500..500)))
+			}
 			"walk: libslp" => {
 				black_box(walk(&self.file));
 			}

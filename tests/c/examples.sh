@@ -4,6 +4,7 @@ set -eu
 bin=$1
 "$bin/masks"
 "$bin/rows"
+"$bin/record_live"
 "$bin/write_game" "$bin/game.slp"
 "$bin/walk_file" "$bin/game.slp"
 head -c 900 "$bin/game.slp" >"$bin/cut.slp"

@@ -14,6 +14,8 @@ uint8_t real_slp_rollbacks(const uint32_t *ids, size_t ids_len, uint8_t keep, ui
 slp_written real_slp_write(uint8_t *out, size_t out_len, slp_game game, SLP_STORE_PARAMETERS, const uint8_t *template_block,
                            size_t template_len, const uint8_t *codes, size_t codes_len, const uint8_t *metadata, size_t metadata_len);
 slp_reserved real_slp_room(slp_plan plan);
+slp_appended real_slp_write_frames(uint8_t *out, size_t out_len, size_t place, slp_frames frames, SLP_STORE_PARAMETERS, size_t a, size_t b);
+slp_appended real_slp_write_frame(uint8_t *out, size_t out_len, size_t place, slp_frames frames, SLP_STORE_PARAMETERS, size_t i);
 slp_frame_answer real_slp_frame_row(slp_frames frames, SLP_STORE_PARAMETERS, size_t index);
 slp_post_answer real_slp_post_row(slp_frames frames, SLP_STORE_PARAMETERS, size_t slot, size_t index);
 
@@ -223,6 +225,41 @@ slp_written slp_write(uint8_t *out, size_t out_len, slp_game game, SLP_STORE_PAR
 	slp_written w = real_slp_write(out, out_len, misread(game), STORES, template_block, template_len, codes, codes_len, metadata,
 	                               metadata_len);
 	return spoiled(w, out, out_len, metadata, metadata_len);
+}
+
+slp_appended slp_write_frames(uint8_t *out, size_t out_len, size_t place, slp_frames frames, SLP_STORE_PARAMETERS, size_t a, size_t b)
+{
+	if (faulty("run-taken-in"))
+		b += a < b && b < frames.counts.frames;
+	if (faulty("run-reversed") && a > b)
+		a = b;
+	if (faulty("run-start") && place > 0 && place <= out_len)
+		place--;
+	slp_appended r = real_slp_write_frames(out, out_len, place, frames, STORES, a, b);
+	if (faulty("run-beyond-empty") && r.refused == 12 && a == b && place > out_len)
+		r = (slp_appended){ 0, place };
+	if (faulty("run-refused") && r.refused && out_len)
+		out[out_len - 1] ^= 1;
+	if (faulty("run-before") && !r.refused && place)
+		out[place - 1] ^= 1;
+	if (faulty("run-after") && !r.refused && r.end < out_len)
+		out[r.end] ^= 1;
+	if (faulty("run-end"))
+		r.end += !r.refused && a == b;
+	if (faulty("run-order"))
+		r.refused = r.refused == 13 && place > out_len ? 12 : r.refused;
+	if (faulty("run-input") && !r.refused)
+		spoil(ids);
+	return r;
+}
+
+slp_appended slp_write_frame(uint8_t *out, size_t out_len, size_t place, slp_frames frames, SLP_STORE_PARAMETERS, size_t i)
+{
+	if (faulty("frame-first"))
+		i = i < frames.counts.frames ? 0 : i;
+	if (faulty("frame-far") && i == SIZE_MAX)
+		return (slp_appended){ 12, 0 };
+	return real_slp_write_frame(out, out_len, place, frames, STORES, i);
 }
 
 slp_frame_answer slp_frame_row(slp_frames frames, SLP_STORE_PARAMETERS, size_t index)

@@ -56,6 +56,21 @@ static void reserve(void)
 	printf("room %zu, refused %u\n", r.bytes, r.refused);
 }
 
+/* A run of one frame of a player at 0.1.0 behind a byte that stays. */
+static void append_run(void)
+{
+	static const uint32_t cells[SLP_PRE_COLUMNS];
+	slp_game game = { .frames = { .version = { 0, 1, 0 }, .counts = { .frames = 1 }, .port_count = 1 } };
+	slp_stores stores = { .ids = { cells, 1 }, .pres = { cells, slp_columns(game.frames.version, SLP_FAMILY_PRE) },
+	                      .posts = { cells, slp_columns(game.frames.version, SLP_FAMILY_POST) } };
+	uint8_t out[94] = { 0xee };
+	size_t place = 1;
+	slp_appended r = slp_write_frames(out, sizeof out, place, game.frames, SLP_STORES(&stores), 0, game.frames.counts.frames);
+	if (!r.refused) place = r.end;    // where the next run goes
+	printf("run up to %zu: %02x %02x\n", place, out[0], out[1]);
+	printf("one byte less: refused %u\n", slp_write_frame(out, 93, 1, game.frames, SLP_STORES(&stores), 0).refused);
+}
+
 /* ---- rows */
 
 static void show_frame(slp_game game, slp_stores stores)
@@ -110,6 +125,7 @@ int main(void)
 	mask_frames();
 	write_and_read();
 	reserve();
+	append_run();
 	show_rows();
 	return 0;
 }

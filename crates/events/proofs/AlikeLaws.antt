@@ -15,7 +15,7 @@ use Rattle.layout.specs.Columns.{sum}
 use Rattle.record.proofs.Laws.{head-length, length-record}
 use Rattle.spread.specs.Inner.{Rooms, Sown}
 use Rattle.spread.proofs.Laws.{sown-whole}
-use Rattle.game.specs.Stores.{Lent}
+use Rattle.game.specs.Stores.{Offsets, Lent}
 use Rattle.players.specs.Presence.{marked}
 use Rattle.players.specs.declared.slots.Slots.{Slots}
 use Rattle.players.specs.Inner.{Ranges}
@@ -176,14 +176,14 @@ module _ (p : Shapes) (s : Slots) (lent : Lent) (n i j : ℕ)
   eight-last = ap length (frame-brief j 7 (omega arith) (omega arith)) ∙ eight-length 7 (omega arith)
 
 -- ---- a loop over frames: eight at once
-ranged-split : (f : ℕ → List ℕ) (i a b : ℕ) → ranged f i (a + b) ≡ ranged f i a ++ ranged f (i + a) b
+pub ranged-split : {A : Type 0} (f : ℕ → List A) (i a b : ℕ) → ranged f i (a + b) ≡ ranged f i a ++ ranged f (i + a) b
 unfolding ranged
 ranged-split f i zero b = rw (zero-add, add-zero)
-ranged-split f i (suc a) b =
+ranged-split {A} f i (suc a) b =
     let e : suc a + b ≡ suc (a + b) = omega arith in
     let g : i + 1 + a ≡ i + suc a = omega arith in
     ap (λ (k : ℕ). ranged f i k) e
-    ∙ ap (λ (l : List ℕ). f i ++ l) (ranged-split f (i + 1) a b ∙ ap (λ (k : ℕ). ranged f (i + 1) a ++ ranged f k b) g)
+    ∙ ap (λ (l : List A). f i ++ l) (ranged-split f (i + 1) a b ∙ ap (λ (k : ℕ). ranged f (i + 1) a ++ ranged f k b) g)
     ∙ sym (append-assoc (f i) (ranged f (i + 1) a) (ranged f (i + suc a) b))
 
 split-eight : (f : ℕ → List ℕ) (i n : ℕ) → i + 8 ≤ n → ranged f i (n - i) ≡ ranged f i 8 ++ ranged f (i + 8) (n - (i + 8))
@@ -195,6 +195,10 @@ module _ (f : ℕ → List ℕ) (i n : ℕ) (h : i + 8 ≤ n) {first all now : L
 
   pub eights-step : {after : List ℕ} {next : ℕ} → Left first at all now p (ranged f i (n - i)) → Wrote now after p next (ranged f i 8) → Left first at all after next (ranged f (i + 8) (n - (i + 8)))
   eights-step l w = left-step l (split-eight f i n h) w
+
+-- eight frames that come before frame b come before frame n
+pub alike-before : {p : Shapes} {s : Slots} {o : Offsets} {bits : List ℕ} {b n i j : ℕ} → Alike p s o bits b i j → b ≤ n → Alike p s o bits n i j
+alike-before a h = record { clear = record { few = omega (arith, a .clear .few); item = a .clear .item }; calm = a .calm }
 
 -- ---- the frames from i on are alike to the one before them, which took `step` bytes
 pub record Follows (p : Shapes) (s : Slots) (lent : Lent) (n step i : ℕ) : Type 0 where

@@ -4,7 +4,7 @@ use mathlib.Core.Path.{_≡_, refl, sym, ap, ap₂, subst, _∙_}
 use mathlib.Core.Bool.{Bool}
 use mathlib.Core.List.{List, [], _∷_, _++_, append-assoc}
 use Prim.Native.Nat.{ℕ, suc, _+_, _-_, _*_, _≤_, _<_}
-use native.Mathlib.Nat.{suc-mul, zero-mul, zero-add, mul-le-mul, mul-le-mul-right}
+use native.Mathlib.Nat.{sub-zero, suc-mul, zero-mul, zero-add, mul-le-mul, mul-le-mul-right}
 use native.Mathlib.Numerals.{add-one}
 use native.Mathlib.Omega.{arith}
 use lib.ListN.{length, getD}
@@ -150,12 +150,11 @@ module _ (f : Frames) (s : Slots) (lent : Lent) (p : Shapes) (m : ShapesOf f p) 
       (rows-is f lent Item (p .item) (m .item) i)
       (events-both _ _ (players-is f lent Post (p .post) (m .post) s q i) (one-is f lent FrameEnd (p .end) (m .end) i))))
 
-  pub frames-is : (n : ℕ) → n ≡ f .counts .frames → eventsBytes (framesEvents f lent) ≡ ranged (frameBytes p s lent) 0 n
-  unfolding framesEvents
-  frames-is n e =
-      events-ranged (frameEvents f lent) 0 (f .counts .frames)
-      ∙ ap (λ (k : ℕ). ranged (λ i. eventsBytes (frameEvents f lent i)) 0 k) (sym e)
-      ∙ ranged-same (λ i. eventsBytes (frameEvents f lent i)) (frameBytes p s lent) 0 n (λ i l k. frame-is i)
+  -- a run of n frames from frame a on
+  pub run-is : (a n : ℕ) → eventsBytes (ranged (frameEvents f lent) a n) ≡ ranged (frameBytes p s lent) a n
+  run-is a n =
+      events-ranged (frameEvents f lent) a n
+      ∙ ranged-same (λ i. eventsBytes (frameEvents f lent i)) (frameBytes p s lent) a n (λ i l k. frame-is i)
 
   pub supplied-of : Framed f lent → Supplied p s lent (length (lent .cells .ids))
   supplied-of r = subst (λ (n : ℕ). Supplied p s lent n) (sym (r .ids)) (record {
@@ -171,6 +170,11 @@ module _ (f : Frames) (s : Slots) (lent : Lent) (p : Shapes) (m : ShapesOf f p) 
     post = per-frame f lent Post (p .post) (m .post) r (s .count) (q .count) refl;
     end = per-frame f lent FrameEnd (p .end) (m .end) r 1 refl refl;
   })
+
+-- all frames are a run
+pub frames-run : (f : Frames) (lent : Lent) → framesEvents f lent ≡ ranged (frameEvents f lent) 0 (f .counts .frames - 0)
+unfolding framesEvents
+frames-run f lent = rw (sub-zero (f .counts .frames))
 
 -- ---- a frame, part after part
 module _ (p : Shapes) (s : Slots) (lent : Lent) (i : ℕ) where

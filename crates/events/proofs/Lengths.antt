@@ -3,11 +3,12 @@
 use mathlib.Core.Path.{_≡_, refl, sym, ap, _∙_}
 use mathlib.Core.Bool.{Bool, true, false, cond}
 use mathlib.Core.List.{List, [], _∷_}
-use Prim.Native.Nat.{ℕ, zero, suc, _+_, _-_, _*_}
+use Prim.Native.Nat.{ℕ, zero, suc, _+_, _-_, _*_, _≤_}
 use native.Mathlib.Nat.{zero-mul, mul-zero, one-mul, zero-add}
 use native.Mathlib.Numerals.{add-one}
 use native.Mathlib.Omega.{arith}
 use lib.ListN.{length, getD}
+use Rattle.wire.specs.Wire.{ranged}
 use Rattle.wire.proofs.Sums.{summed, length-summed, summed-same, summed-both, summed-shift, summed-mul, summed-const, summed-rise}
 use Rattle.format.specs.File.{eventsBytes}
 use Rattle.format.proofs.Files.{events-ranged, length-both, length-kept-one, length-kept-each}
@@ -17,11 +18,11 @@ use Rattle.layout.specs.declared.columns.Family.{Family}
 use Rattle.layout.specs.declared.columns.Family.the-variants.{Pre, Post, FrameStart, Item, FrameEnd, FodPlatform, DreamlandWhispy, StadiumTransformation}
 use Rattle.game.specs.Frames.{Slot, noSlot, slotsOf, rowsOf}
 use Rattle.game.specs.Stores.{Lent, offsetsOf}
-use Rattle.players.specs.Presence.{presentAt, countFrom, playersPresent}
+use Rattle.players.specs.Presence.{presentAt, countFrom, presentIn, playersPresent}
 use Rattle.game.specs.declared.frames.Frames.{Frames}
 use Rattle.events.specs.Events.{headOf, rowOf, idOf, oneEvent, rowEvents, playerEvent, playerEvents, frameEvents, framesEvents}
 use Rattle.events.specs.Inner.{RangesIn, Framed}
-use Rattle.events.specs.Length.{eventSize, framesLength}
+use Rattle.events.specs.Length.{eventSize, framesLength, playersOver, rowsBetween, runLength}
 use Rattle.events.proofs.Sizes.{plain-size, player-size}
 
 -- ---- players: those of a frame, and those of all frames
@@ -46,10 +47,16 @@ unfolding summed countFrom
 count-summed p i zero = refl
 count-summed p i (suc n) = ap (λ (k : ℕ). cond (p i) 1 0 + k) (count-summed p (i + 1) n)
 
-players-summed : (bits : List ℕ) (ss : List Slot) (n : ℕ) → summed (λ i. overall (here bits i) ss) 0 n ≡ playersPresent bits ss n
-unfolding overall playersPresent
-players-summed bits [] n = summed-const 0 0 n ∙ mul-zero n
-players-summed bits (s ∷ ss) n = summed-both (λ i. here bits i s) (λ i. overall (here bits i) ss) 0 n (count-summed (presentAt bits s) 0 n) (players-summed bits ss n)
+players-summed : (bits : List ℕ) (ss : List Slot) (a n : ℕ) → summed (λ i. overall (here bits i) ss) a n ≡ playersOver bits ss a n
+unfolding overall playersOver
+players-summed bits [] a n = summed-const 0 a n ∙ mul-zero n
+players-summed bits (s ∷ ss) a n = summed-both (λ i. here bits i s) (λ i. overall (here bits i) ss) a n (count-summed (presentAt bits s) a n) (players-summed bits ss a n)
+
+-- those of all frames
+players-whole : (bits : List ℕ) (ss : List Slot) (n : ℕ) → playersOver bits ss 0 n ≡ playersPresent bits ss n
+unfolding playersOver playersPresent
+players-whole bits [] n = refl
+players-whole bits (s ∷ ss) n = ap (λ (k : ℕ). presentIn bits s n + k) (players-whole bits ss n)
 
 cond-mul : (b : Bool) (s : ℕ) → cond b s 0 ≡ cond b 1 0 * s
 cond-mul true s = sym (one-mul s)
@@ -89,24 +96,38 @@ module _ (f : Frames) (lent : Lent) (family : Family) where
       ∙ summed-mul at size 0 (length ss)
       ∙ ap (λ (n : ℕ). n * size) (overall-is (here (lent .presence) i) ss)
 
-  -- and over all frames
-  one-all : summed (λ i. eventSize (f .version) family) 0 (f .counts .frames) ≡ f .counts .frames * eventSize (f .version) family
-  one-all = summed-const (eventSize (f .version) family) 0 (f .counts .frames)
+  -- and over a run of n frames from frame a on
+  one-run : (a n : ℕ) → summed (λ i. eventSize (f .version) family) a n ≡ n * eventSize (f .version) family
+  one-run a n = summed-const (eventSize (f .version) family) a n
 
+  players-run : (a n : ℕ) → summed (λ i. playersAt i * size) a n ≡ playersOver (lent .presence) (slotsOf f) a n * size
+  players-run a n = summed-mul playersAt size a n ∙ ap (λ (k : ℕ). k * size) (players-summed (lent .presence) (slotsOf f) a n)
+
+  abbrev os : List ℕ
+  os = offsetsOf (lent .offsets) family
+
+  -- a family that the version lacks counts nothing
+  counted : (k m : ℕ) → (hasFamily (f .version) family ≡ true → k ≡ m) → k * eventSize (f .version) family ≡ m * eventSize (f .version) family
+  counted k m h = go (hasFamily (f .version) family) h
+    where
+      go : (b : Bool) → (b ≡ true → k ≡ m) → k * cond b size 0 ≡ m * cond b size 0
+      go true e = ap (λ (x : ℕ). x * size) (e refl)
+      go false e = mul-zero k ∙ sym (mul-zero m)
+
+  rows-run : RangesIn f lent family → (a n : ℕ) → a + n ≤ f .counts .frames
+      → summed (λ i. rowsAt i * eventSize (f .version) family) a n ≡ rowsBetween os a (a + n) * eventSize (f .version) family
+  rows-run r a n h =
+      summed-mul rowsAt (eventSize (f .version) family) a n
+      ∙ counted _ _ (λ e. let t = summed-rise os a n (λ j l. r e .rising j (omega arith)) in omega (arith, t))
+
+  -- and over all frames
   players-all : summed (λ i. playersAt i * size) 0 (f .counts .frames) ≡ playersPresent (lent .presence) (slotsOf f) (f .counts .frames) * size
-  players-all = summed-mul playersAt size 0 (f .counts .frames) ∙ ap (λ (n : ℕ). n * size) (players-summed (lent .presence) (slotsOf f) (f .counts .frames))
+  players-all = players-run 0 (f .counts .frames) ∙ ap (λ (k : ℕ). k * size) (players-whole (lent .presence) (slotsOf f) (f .counts .frames))
 
   rows-all : RangesIn f lent family → summed (λ i. rowsAt i * eventSize (f .version) family) 0 (f .counts .frames) ≡ rowsOf f family * eventSize (f .version) family
-  rows-all r = summed-mul rowsAt (eventSize (f .version) family) 0 (f .counts .frames) ∙ go (hasFamily (f .version) family) refl
-    where
-      go : (b : Bool) → hasFamily (f .version) family ≡ b
-          → summed rowsAt 0 (f .counts .frames) * cond (hasFamily (f .version) family) size 0 ≡ rowsOf f family * cond (hasFamily (f .version) family) size 0
-      go true e =
-          let o = r e in
-          let t = summed-rise (offsetsOf (lent .offsets) family) 0 (f .counts .frames) (λ j l. o .rising j (omega arith)) in
-          let n : summed rowsAt 0 (f .counts .frames) ≡ rowsOf f family = omega (arith, t, o .first, o .last, ap (λ (k : ℕ). getD (offsetsOf (lent .offsets) family) k 0) (zero-add (f .counts .frames))) in
-          ap (λ (k : ℕ). k * cond (hasFamily (f .version) family) size 0) n
-      go false e = rw e (mul-zero (summed rowsAt 0 (f .counts .frames)) ∙ sym (mul-zero (rowsOf f family)))
+  rows-all r =
+      rows-run r 0 (f .counts .frames) (omega arith)
+      ∙ counted _ _ (λ e. omega (arith, r e .first, r e .last, ap (λ (k : ℕ). getD os k 0) (zero-add (f .counts .frames))))
 
 module _ (f : Frames) (lent : Lent) where
   frame-length : (i : ℕ) → length (eventsBytes (frameEvents f lent i))
@@ -136,11 +157,34 @@ module _ (f : Frames) (lent : Lent) where
       ap length (events-ranged (frameEvents f lent) 0 n)
       ∙ length-summed (λ i. eventsBytes (frameEvents f lent i)) 0 n
       ∙ summed-same (λ i. length (eventsBytes (frameEvents f lent i))) _ 0 n frame-length
-      ∙ summed-both _ _ 0 n (one-all f lent FrameStart)
+      ∙ summed-both _ _ 0 n (one-run f lent FrameStart 0 n)
       (summed-both _ _ 0 n (players-all f lent Pre)
       (summed-both _ _ 0 n (rows-all f lent FodPlatform (r .fods))
       (summed-both _ _ 0 n (rows-all f lent DreamlandWhispy (r .whispys))
       (summed-both _ _ 0 n (rows-all f lent StadiumTransformation (r .stadiums))
       (summed-both _ _ 0 n (rows-all f lent Item (r .items))
       (summed-both _ _ 0 n (players-all f lent Post)
-      (one-all f lent FrameEnd)))))))
+      (one-run f lent FrameEnd 0 n)))))))
+
+  -- a run: the frames from a on and before b
+  pub length-run : Framed f lent → (a b : ℕ) → a ≤ b → b ≤ f .counts .frames
+      → length (eventsBytes (ranged (frameEvents f lent) a (b - a))) ≡ runLength f (lent .offsets) (lent .presence) a b
+  unfolding runLength
+  length-run r a b h l =
+      let n = b - a in
+      let e : a + n ≡ b = omega arith in
+      let within : a + n ≤ f .counts .frames = omega arith in
+      let rows : (family : Family) → RangesIn f lent family → summed (λ i. rowsAt f lent family i * eventSize (f .version) family) a n
+      ≡ rowsBetween (offsetsOf (lent .offsets) family) a b * eventSize (f .version) family =
+      λ family q. rows-run f lent family q a n within ∙ ap (λ (k : ℕ). rowsBetween (offsetsOf (lent .offsets) family) a k * eventSize (f .version) family) e in
+      ap length (events-ranged (frameEvents f lent) a n)
+      ∙ length-summed (λ i. eventsBytes (frameEvents f lent i)) a n
+      ∙ summed-same (λ i. length (eventsBytes (frameEvents f lent i))) _ a n frame-length
+      ∙ summed-both _ _ a n (one-run f lent FrameStart a n)
+      (summed-both _ _ a n (players-run f lent Pre a n)
+      (summed-both _ _ a n (rows FodPlatform (r .fods))
+      (summed-both _ _ a n (rows DreamlandWhispy (r .whispys))
+      (summed-both _ _ a n (rows StadiumTransformation (r .stadiums))
+      (summed-both _ _ a n (rows Item (r .items))
+      (summed-both _ _ a n (players-run f lent Post a n)
+      (one-run f lent FrameEnd a n)))))))

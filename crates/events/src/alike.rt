@@ -67,14 +67,14 @@ fn is_team(s: Slots, presence: &[u8], i: usize, j: usize) -> bool
     true
 }
 
-// The eight frames from j on are there, and no frame from i on has an item. Items break likeness most often, so this is asked by itself: in a game
+// The eight frames from j on come before frame b, and no frame from i on has an item. Items break likeness most often, so this is asked by itself: in a game
 // rich in them it is all that is asked.
-pub fn is_clear(item: bool, offsets: &[u32], n: usize, i: usize, j: usize) -> bool
-    requires { ⌜ RangesWhere item (now offsets) n × (n ≤ 1048576) × (i ≤ j) × (j ≤ n) ⌝ }
-    ensures { λ r. ⌜ (r ≡ true → Clear item (now (offsets .entry)) n i j) ⌝ }
+pub fn is_clear(item: bool, offsets: &[u32], n: usize, b: usize, i: usize, j: usize) -> bool
+    requires { ⌜ RangesWhere item (now offsets) n × (n ≤ 1048576) × (i ≤ j) × (j ≤ b) × (b ≤ n) ⌝ }
+    ensures { λ r. ⌜ (r ≡ true → Clear item (now (offsets .entry)) b i j) ⌝ }
 {
     let end = j + 8;
-    if n < end {
+    if b < end {
         return false;
     }
     is_bare(item, offsets, n, i, end)

@@ -1,12 +1,12 @@
 // Frames: all records of a frame in their order, and frame after frame.
 ghost use mathlib.Core.Path.{_≡_};
-ghost use Prim.Native.Nat.{_≤_, _<_};
+ghost use Prim.Native.Nat.{_-_, _≤_, _<_};
 ghost use lib.ListN.{length};
 ghost use Rattle.wire.specs.Wire.{ranged, Room, Wrote};
 ghost use Rattle.format.specs.File.{eventsBytes};
 ghost use Rattle.players.specs.Inner.{Slotted};
 ghost use Rattle.game.specs.Stores.{cells, offsets, lent};
-ghost use Rattle.events.specs.Events.{framesEvents};
+ghost use Rattle.events.specs.Events.{frameEvents};
 ghost use Rattle.events.specs.Inner.{Framed, middleBytes, frameBytes, PerOffset, Supplied};
 ghost use Rattle.events.specs.Eights.{Alike};
 use super::alike::is_calm;
@@ -173,12 +173,14 @@ fn put_alike(
     at + 8 * step
 }
 
-// The events of all frames.
+// The events of the frames from a on and before b.
 pub fn put_frames(
     out: &mut [u8],
     at: usize,
     f: Frames,
     s: Slots,
+    a: usize,
+    b: usize,
     ids: &[u32],
     starts: &[u32],
     pres: &[u32],
@@ -201,21 +203,23 @@ pub fn put_frames(
         (now presence) in
         Framed f all
         × Slotted f s
-        × Room (now out) at (eventsBytes (framesEvents f all))) ⌝ }
+        × (a ≤ b)
+        × (b ≤ f .counts .frames)
+        × Room (now out) at (eventsBytes (ranged (frameEvents f all) a (b - a)))) ⌝ }
     ensures { λ r. ⌜ (let all = lent
         (cells (now (ids .entry)) (now (starts .entry)) (now (pres .entry)) (now (posts .entry)) (now (ends .entry))
         (now (items .entry)) (now (fods .entry)) (now (whispys .entry)) (now (stadiums .entry)))
         (offsets (now («item_offsets» .entry)) (now («fod_offsets» .entry)) (now («whispy_offsets» .entry)) (now («stadium_offsets» .entry)))
         (now (presence .entry)) in
-        Wrote (now (out .entry)) (now (out .exit)) at r (eventsBytes (framesEvents f all))) ⌝ }
+        Wrote (now (out .entry)) (now (out .exit)) at r (eventsBytes (ranged (frameEvents f all) a (b - a)))) ⌝ }
 {
     let shapes = shapes_of(f);
     let n = ids.len();
     let mut p = at;
-    let mut i: usize = 0;
+    let mut i = a;
     let mut step: usize = 0;
     let mut like = false;
-    while i < n {
+    while i < b {
         if like {
             p = put_alike(
                 out,
@@ -242,7 +246,7 @@ pub fn put_frames(
             );
             i += 8;
             like = false;
-            if is_clear(shapes.item.given, item_offsets, n, i - 1, i) {
+            if is_clear(shapes.item.given, item_offsets, n, b, i - 1, i) {
                 like = is_calm(
                     shapes.fod.given,
                     shapes.whispy.given,
@@ -283,7 +287,7 @@ pub fn put_frames(
             p = q;
             i += 1;
             like = false;
-            if is_clear(shapes.item.given, item_offsets, n, i - 1, i) {
+            if is_clear(shapes.item.given, item_offsets, n, b, i - 1, i) {
                 like = is_calm(
                     shapes.fod.given,
                     shapes.whispy.given,

@@ -3,8 +3,8 @@
 use mathlib.Core.Path.{_≡_, ap₂}
 use mathlib.Core.Bool.{Bool}
 use mathlib.Core.List.{List, [], _∷_, _++_}
-use Prim.Native.Nat.{ℕ}
-use Rattle.wire.specs.Wire.{be}
+use Prim.Native.Nat.{ℕ, _-_}
+use Rattle.wire.specs.Wire.{be, ranged}
 use Rattle.format.specs.Event.{codeOf, signature}
 use Rattle.format.specs.File.{tableBytes, eventsBytes}
 use Rattle.format.specs.Mark.{yes}
@@ -16,7 +16,8 @@ use Rattle.game.specs.Stores.{Lent}
 use Rattle.codes.specs.Blocks.{codeEvents}
 use Rattle.ending.specs.End.{endEvents}
 use Rattle.ending.specs.Tail.{tailOf}
-use Rattle.events.specs.Events.{framesEvents}
+use Rattle.events.specs.Events.{frameEvents}
+use Rattle.events.proofs.Laws.{frames-run}
 use Rattle.ser.specs.Inner.{frontBytes, restBytes}
 
 -- with the mark and the code as the code found them
@@ -26,14 +27,12 @@ unfolding frontBytes
 front-parts v codesGiven actual block raw b k e f =
     ap₂ (λ (x : Bool) (y : ℕ). signature ++ (be 4 raw ++ (tableBytes (entriesOf v block x actual) ++ (y ∷ [])))) e f
 
+-- and the frames as the run of all of them
 pub rest-parts : (g : Game) (lent : Lent) (codes metadata : List ℕ) (b m : Bool) → yes (g .«codes_given») ≡ b → yes (g .«metadata_given») ≡ m
     → restBytes g lent codes metadata
     ≡ eventsBytes (codeEvents b codes (g .«actual_size»))
-    ++ (eventsBytes (framesEvents (g .frames) lent) ++ (eventsBytes (endEvents (g .frames .version) (g .end) (g .«double_end»)) ++ tailOf m metadata))
+    ++ (eventsBytes (ranged (frameEvents (g .frames) lent) 0 (g .frames .counts .frames - 0))
+    ++ (eventsBytes (endEvents (g .frames .version) (g .end) (g .«double_end»)) ++ tailOf m metadata))
 unfolding restBytes
 rest-parts g lent codes metadata b m e f =
-    ap₂
-    (λ (x y : Bool).
-    eventsBytes (codeEvents x codes (g .«actual_size»))
-    ++ (eventsBytes (framesEvents (g .frames) lent) ++ (eventsBytes (endEvents (g .frames .version) (g .end) (g .«double_end»)) ++ tailOf y metadata)))
-    e f
+    rw (e, f, frames-run (g .frames) lent)

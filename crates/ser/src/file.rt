@@ -87,6 +87,8 @@ pub fn put_rest(
         p,
         f,
         s,
+        0,
+        f.counts.frames,
         ids,
         starts,
         pres,

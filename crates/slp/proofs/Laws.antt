@@ -18,13 +18,17 @@ use Rattle.rollback.specs.Mask as rollback
 use Rattle.rollback.specs.declared.frame.Rollbacks.{Rollbacks}
 use Rattle.rollback.specs.declared.frame.Masked.{Masked}
 use Rattle.rollback.proofs.Only.{same-answer}
-use Rattle.game.specs.Stores.{Stores, families}
+use Rattle.game.specs.Stores.{Lent, Stores, families}
+use Rattle.game.specs.declared.frames.Frames.{Frames}
+use Rattle.append.specs.Run as append
+use Rattle.append.specs.declared.appended.Appended.{Appended}
+use Rattle.slp.specs.declared.answers.SlpAppended.{SlpAppended}
 use Rattle.ser.specs.Write as write
 use Rattle.game.specs.declared.Game.{Game}
 use Rattle.ser.specs.declared.written.Written.{Written}
 use Rattle.slp.specs.declared.answers.SlpWritten.{SlpWritten}
-use Rattle.slp.specs.Answers.{walked, writtenStruct, written, storeColumns}
-use Rattle.slp.specs.Outcomes.{keepOf, MaskOutcome, WriteOutcome}
+use Rattle.slp.specs.Answers.{walked, writtenStruct, written, appendedStruct, appendedAs, storeColumns}
+use Rattle.slp.specs.Outcomes.{keepOf, MaskOutcome, WriteOutcome, AppendOutcome}
 
 pub mask-outcome : {ids mask scratch ma sa : List ℕ} {keep : Rollbacks} {k number : ℕ} {answer : Masked} →
     keep ≡ keepOf k → rollback.RollbackOutcome ids keep mask scratch answer ma sa → number ≡ rollback.maskNumbers answer .number →
@@ -40,6 +44,10 @@ mask-outcome {ids} {mask} {scratch} {keep = keep} {answer = answer} kept o n =
 pub write-outcome : {g : Game} {s : Stores} {out out′ : List ℕ} {w : Written} {r : SlpWritten} →
     write.Outcome g s out w out′ → r ≡ written w → WriteOutcome g s out r out′
 write-outcome o n = record { answer-is = n ∙ ap writtenStruct (o .answer-is); out-is = o .out-is }
+
+pub append-outcome : {f : Frames} {s : Lent} {a b place : ℕ} {out out′ : List ℕ} {w : Appended} {r : SlpAppended} →
+    append.RunOutcome f s a b place out w out′ → r ≡ appendedAs w → AppendOutcome f s a b place out r out′
+append-outcome o n = record { answer-is = n ∙ ap appendedStruct (o .answer-is); out-is = o .out-is }
 
 pub walk-done : {events stray place mark : ℕ} {whole : Bool} {w : Walked} →
     mark ≡ cond whole 1 0 → w ≡ Done events stray whole place →

@@ -14,6 +14,9 @@ use Rattle.head.specs.declared.Step.{Step}
 use Rattle.de.specs.declared.Walked.{Walked}
 use Rattle.ser.specs.declared.written.Written.{Written}
 use Rattle.ser.specs.Write.{WrittenNumbers, writtenNumbers}
+use Rattle.append.specs.declared.appended.Appended.{Appended}
+use Rattle.append.specs.Run.{AppendedNumbers, appendedNumbers}
+use Rattle.slp.specs.declared.answers.SlpAppended.{SlpAppended}
 use Rattle.slp.specs.declared.answers.SlpStep.{SlpStep}
 use Rattle.slp.specs.declared.answers.SlpWalked.{SlpWalked}
 use Rattle.slp.specs.declared.answers.SlpWritten.{SlpWritten}
@@ -35,6 +38,12 @@ writtenStruct n = record { refused = n .number; len = n .len }
 
 abbrev pub written : Written → SlpWritten
 written w = writtenStruct (writtenNumbers w)
+
+abbrev pub appendedStruct : AppendedNumbers → SlpAppended
+appendedStruct n = record { refused = n .number; end = n .end }
+
+abbrev pub appendedAs : Appended → SlpAppended
+appendedAs w = appendedStruct (appendedNumbers w)
 
 -- how many columns a family's store has; the families are numbered by their stores
 abbrev pub storeColumns : Version → ℕ → ℕ

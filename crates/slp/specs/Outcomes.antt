@@ -1,6 +1,6 @@
 -- What the calls that change lent bytes answer, and what those bytes are afterwards.
 -- Assumes nothing.
-use Prim.Native.Nat.{ℕ}
+use Prim.Native.Nat.{ℕ, _+_}
 use mathlib.Core.Path.{_≡_}
 use mathlib.Core.Bool.{cond}
 use mathlib.Core.List.{List}
@@ -9,11 +9,14 @@ use Rattle.format.specs.Mark.{yes}
 use Rattle.rollback.specs.Mask.{answerOf, maskNumbers, maskAfter, scratchAfter}
 use Rattle.rollback.specs.declared.frame.Rollbacks.{Rollbacks}
 use Rattle.rollback.specs.declared.frame.Rollbacks.the-variants.{ExceptFirst, ExceptLast}
-use Rattle.game.specs.Stores.{Stores}
+use Rattle.game.specs.Stores.{Lent, Stores}
 use Rattle.ser.specs.Write.{answered, left, refusal, file}
+use Rattle.append.specs.Run.{runBytes, runRefusal, appended, leftAt}
 use Rattle.game.specs.declared.Game.{Game}
+use Rattle.game.specs.declared.frames.Frames.{Frames}
+use Rattle.slp.specs.declared.answers.SlpAppended.{SlpAppended}
 use Rattle.slp.specs.declared.answers.SlpWritten.{SlpWritten}
-use Rattle.slp.specs.Answers.{written}
+use Rattle.slp.specs.Answers.{written, appendedAs}
 
 -- 0 keeps an id's first frame, every other number its last
 abbrev pub keepOf : ℕ → Rollbacks
@@ -27,3 +30,8 @@ pub record MaskOutcome (ids : List ℕ) (keep : ℕ) (mask scratch : List ℕ) (
 pub record WriteOutcome (g : Game) (s : Stores) (out : List ℕ) (r : SlpWritten) (out′ : List ℕ) : Type 0 where
   pub answer-is : r ≡ written (answered (refusal g s (length out)) (length (file g s)))
   pub out-is : out′ ≡ left (refusal g s (length out)) out (file g s)
+
+-- a run of frames from a up to b; frame i alone is the run from i up to i + 1
+pub record AppendOutcome (f : Frames) (s : Lent) (a b place : ℕ) (out : List ℕ) (r : SlpAppended) (out′ : List ℕ) : Type 0 where
+  pub answer-is : r ≡ appendedAs (appended (runRefusal f s a b place (length out)) (place + length (runBytes f s a b)))
+  pub out-is : out′ ≡ leftAt (runRefusal f s a b place (length out)) out place (runBytes f s a b)

@@ -1,7 +1,8 @@
 // The answers as structs of numbers: an enum does not cross to C. A field that an answer lacks is 0.
 ghost use mathlib.Core.Path.{_≡_};
 ghost use mathlib.Core.Bool.{cond};
-ghost use Rattle.slp.specs.Answers.{stepped, walked, written};
+ghost use Rattle.slp.specs.Answers.{stepped, walked, written, appendedAs};
+use append::appended::Appended;
 use de::Walked;
 use head::Step;
 use ser::written::Written;
@@ -33,6 +34,12 @@ pub struct SlpWalked {
 pub struct SlpWritten {
     pub refused: u8,
     pub len: usize,
+}
+
+#[repr(C)]
+pub struct SlpAppended {
+    pub refused: u8,
+    pub end: usize,
 }
 
 fn bare(kind: u8, refused: u8, offset: usize) -> SlpStep
@@ -116,5 +123,14 @@ pub fn written_numbers(w: Written) -> SlpWritten
     match w {
         Written::File(len) => SlpWritten { refused: 0, len },
         Written::Refused(refused) => SlpWritten { refused, len: 0 },
+    }
+}
+
+pub fn appended_numbers(w: Appended) -> SlpAppended
+    ensures { λ r. ⌜ r ≡ appendedAs w ⌝ }
+{
+    match w {
+        Appended::End(end) => SlpAppended { refused: 0, end },
+        Appended::Refused(refused) => SlpAppended { refused, end: 0 },
     }
 }

@@ -1,5 +1,6 @@
 // What C and Rust call: numbers, slices (a pointer, then a count of elements) and structs by value. include/slp.h says it in C's words.
 pub mod answers;
+pub mod appender;
 pub mod columns;
 pub mod frame_rows;
 pub mod mask;

@@ -63,13 +63,48 @@ fn check_file(case: &Case, game: &Game, counts: &mut Counts) -> Option<String> {
 	if let Some(at) = (0..theirs.len()).find(|&i| out[i] != theirs[i]) {
 		return Some(format!("byte {at} of the files: ours {:02x}, the Rust's {:02x}", out[at], theirs[at]));
 	}
-	check_short(case, theirs.len() - 1).or_else(|| check_walk(&theirs)).or_else(|| check_room(case, theirs.len()))
+	check_short(case, theirs.len() - 1)
+		.or_else(|| check_walk(&theirs))
+		.or_else(|| check_room(case, theirs.len()))
+		.or_else(|| check_runs(case, &theirs, counts.games))
 }
 
 /// The room of the game's own counts is enough for the Rust's file.
 fn check_room(case: &Case, len: usize) -> Option<String> {
 	let room = slp::room(&slp::Plan::of(&case.game, &case.stores()));
 	(!matches!(room, Ok(bytes) if len <= bytes)).then(|| format!("the Rust's file has {len} bytes, the room for it: {room:?}"))
+}
+
+/// Where the first event stands in a file, from a place on, that has none of these codes; the end of the event data where all have.
+fn place_past(file: &[u8], mut place: usize, codes: &[u8]) -> usize {
+	while let Ok(slp::Step::Event { code, next, .. }) = slp::step_at(file, place) {
+		if !codes.contains(&code) {
+			break;
+		}
+		place = next;
+	}
+	place
+}
+
+/// Two runs of frames, the second at the end place of the first, leave what stands in the Rust's file between codes and ends.
+fn check_runs(case: &Case, theirs: &[u8], number: usize) -> Option<String> {
+	let first = place_past(theirs, slp::first_place(theirs), &[0x36, 0x10]);
+	let (frames, place) = (case.ids.len(), number % 7);
+	let cut = number % (frames + 1);
+	let mut out = guarded(place + theirs.len() - first);
+	let run = |out: &mut [u8], place, range| slp::write_frames(&case.game.frames, &case.stores(), out, place, range);
+	let end = match run(&mut out, place, 0..cut).and_then(|middle| run(&mut out, middle, cut..frames)) {
+		Err(number) => return Some(format!("our runs of frames are refused {number}")),
+		Ok(end) => end,
+	};
+	let last = first + (end - place);
+	let ends = place_past(theirs, last, &[0x39]);
+	match () {
+		_ if out[place..end] != theirs[first..last] => Some("our runs of frames are not in the Rust's file".into()),
+		_ if slp::step_at(theirs, ends) != Ok(slp::Step::Ends) => Some("our runs are not all frames of the Rust's file".into()),
+		_ if !kept(&out, end) || out[..place] != guarded(place) => Some("bytes outside our runs are touched".into()),
+		_ => None,
+	}
 }
 
 /// An output that is one byte short is refused and stays.

@@ -31,6 +31,7 @@ mod stores;
 mod plan;
 mod raw;
 
+mod append;
 pub mod columns;
 mod masks;
 mod reader;
@@ -38,6 +39,7 @@ mod room;
 pub mod rows;
 mod write;
 
+pub use append::{write_frame, write_frames};
 pub use columns::Family;
 pub use game::*;
 pub use masks::{rollbacks, scratch_len, Rollbacks};

@@ -21,6 +21,10 @@ int too_many(const slp_counts *c, size_t codes, size_t metadata);
 unsigned model_refusal(const input *in);
 /* The file of a game that is not refused. */
 model_file model_write(const input *in);
+/* The bytes of its frames from a on and before b. */
+model_file model_run(const input *in, size_t a, size_t b);
+/* Refusals 1 to 7, 13 and 12, in that order, of a run at a place of an output of `room` bytes, or 0. */
+unsigned model_run_refusal(const input *in, size_t room, size_t place, size_t a, size_t b);
 void model_free(model_file *f);
 /* The room of a plan. */
 slp_reserved model_room(const slp_plan *p);

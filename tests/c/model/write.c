@@ -331,6 +331,30 @@ model_file model_write(const input *in)
 	return f;
 }
 
+model_file model_run(const input *in, size_t a, size_t b)
+{
+	model_file f = { 0 };
+	for (size_t i = a; i < b; i++)
+		put_frame(&f, in, i);
+	return f;
+}
+
+/* Codes, metadata, start and end do not matter to a run. */
+unsigned model_run_refusal(const input *in, size_t room, size_t place, size_t a, size_t b)
+{
+	input frames = *in;
+	frames.game.codes_given = frames.game.metadata_given = 0;
+	unsigned n = model_refusal(&frames);
+	if (n >= 1 && n <= 7)
+		return n;
+	if (a > b || b > in->game.frames.counts.frames)
+		return 13;
+	model_file f = model_run(in, a, b);
+	size_t len = f.len;
+	model_free(&f);
+	return place > room || room - place < len ? 12 : 0;
+}
+
 void model_free(model_file *f)
 {
 	free(f->bytes);

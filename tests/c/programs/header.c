@@ -9,6 +9,7 @@ _Static_assert(sizeof(size_t) == 8, "64 bits");
 _Static_assert(sizeof(slp_step) == 48 && offsetof(slp_step, offset) == 8 && offsetof(slp_step, next) == 40, "slp_step");
 _Static_assert(sizeof(slp_walked) == 40 && offsetof(slp_walked, offset) == 8 && offsetof(slp_walked, place) == 32, "slp_walked");
 _Static_assert(sizeof(slp_written) == 16 && offsetof(slp_written, len) == 8, "slp_written");
+_Static_assert(sizeof(slp_appended) == 16 && offsetof(slp_appended, end) == 8, "slp_appended");
 
 _Static_assert(sizeof(slp_version) == 3, "slp_version");
 _Static_assert(sizeof(slp_counts) == 40, "slp_counts");

@@ -130,6 +130,27 @@ slp_written guarded_write(const input *in, uint8_t *out, size_t out_len)
 	return w;
 }
 
+slp_appended guarded_run(const input *in, uint8_t *out, size_t out_len, size_t place, size_t a, size_t b)
+{
+	input lent = *in;
+	loan loans[LOANS];
+	lend_input(&lent, loans);
+	loan o = lend(out, out_len, 1);
+	slp_appended r = b == ONE_FRAME ? slp_write_frame(o.data, out_len, place, lent.game.frames, SLP_STORES(&lent.stores), a)
+	                                : slp_write_frames(o.data, out_len, place, lent.game.frames, SLP_STORES(&lent.stores), a, b);
+	take_back(loans);
+	CHECK(memcmp(&lent.game, &in->game, sizeof lent.game) == 0);
+	CHECK(r.refused <= 7 || r.refused == 12 || r.refused == 13);
+	CHECK(r.refused ? r.end == 0 : r.end >= place && r.end <= out_len);
+	CHECK(kept(&o, r.refused ? 0 : r.end));
+	/* nothing before the place either */
+	CHECK(r.refused || place == 0 || memcmp(o.base + o.front, out, place) == 0);
+	if (out_len)
+		memcpy(out, o.base + o.front, out_len);
+	give_back(&o);
+	return r;
+}
+
 uint8_t guarded_rollbacks(const uint32_t *ids, size_t ids_len, uint8_t keep, uint8_t *mask, size_t mask_len, uint8_t *scratch,
                           size_t scratch_len)
 {

@@ -38,6 +38,9 @@ void take_back(loan loans[LOANS]);
 /* The library's room for a game's own counts is enough for its file of `len` bytes. */
 void check_room(const input *in, size_t len);
 slp_written guarded_write(const input *in, uint8_t *out, size_t out_len);
+/* The run of frames from a up to b; with b at ONE_FRAME, frame a by the call for one frame. */
+#define ONE_FRAME (SIZE_MAX - 1)
+slp_appended guarded_run(const input *in, uint8_t *out, size_t out_len, size_t place, size_t a, size_t b);
 uint8_t guarded_rollbacks(const uint32_t *ids, size_t ids_len, uint8_t keep, uint8_t *mask, size_t mask_len, uint8_t *scratch,
                           size_t scratch_len);
 slp_walked guarded_walk(const uint8_t *file, size_t len);

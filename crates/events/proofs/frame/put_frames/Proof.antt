@@ -1,34 +1,33 @@
--- `events::frame::put_frames` meets its contract: what is left to write are the frames from i on.
+-- `events::frame::put_frames` meets its contract: what is left to write are the frames from i on and before b.
 -- Assumes nothing.
 use Prim.Native.Nat.{_-_, _≤_}
 use native.Mathlib.Omega.{arith}
-use lib.ListN.{length}
 use mathlib.Core.Path.{_≡_, refl, sym}
 use mathlib.Core.Bool.{true}
 use Rattle.wire.specs.Wire.{ranged}
-use Rattle.wire.proofs.Writers.{Left, range-start, range-room, range-step, range-done, room-as, wrote-as}
+use Rattle.wire.proofs.Writers.{Left, left-start, range-room, range-step, range-done, room-as, wrote-as}
 use Rattle.game.specs.Stores.{cells, offsets, lent}
 use Rattle.events.specs.Inner.{frameBytes}
-use Rattle.events.proofs.Laws.{frames-is, supplied-of}
-use Rattle.events.proofs.AlikeLaws.{never, ranges-where, Follows, follows-eight, follows-one, eights-room, eights-step}
+use Rattle.events.proofs.Laws.{run-is, supplied-of}
+use Rattle.events.proofs.AlikeLaws.{never, ranges-where, alike-before, Follows, follows-eight, follows-one, eights-room, eights-step}
 use Rattle.events.proofs.frame.put_frames.Statement.{statement}
 use Rattle.events.proofs.frame.put_frames.Tie as tie
 
 abbrev Inv-loop : tie.InvT-loop
-Inv-loop out₀ at s ids starts pres posts ends items fods whispys stadiums item-offsets fod-offsets whispy-offsets stadium-offsets presence shapes n p₀ i₀ step₀ like₀ out p i step like =
+Inv-loop out₀ at s a b ids starts pres posts ends items fods whispys stadiums item-offsets fod-offsets whispy-offsets stadium-offsets presence shapes n p₀ i₀ step₀ like₀ out p i step like =
     let all = lent (cells ids starts pres posts ends items fods whispys stadiums) (offsets item-offsets fod-offsets whispy-offsets stadium-offsets) presence in
-    (i ≤ length ids)
-    × Left out₀ at (ranged (frameBytes shapes s all) 0 (length ids)) out p (ranged (frameBytes shapes s all) i (length ids - i))
-    × (like ≡ true → Follows shapes s all (length ids) step i)
+    (i ≤ b)
+    × Left out₀ at (ranged (frameBytes shapes s all) a (b - a)) out p (ranged (frameBytes shapes s all) i (b - i))
+    × (like ≡ true → Follows shapes s all b step i)
 
 abbrev μ-loop : tie.MeasureT-loop
-μ-loop out₀ at s ids starts pres posts ends items fods whispys stadiums item-offsets fod-offsets whispy-offsets stadium-offsets presence shapes n p₀ i₀ step₀ like₀ out p i step like = length ids - i
+μ-loop out₀ at s a b ids starts pres posts ends items fods whispys stadiums item-offsets fod-offsets whispy-offsets stadium-offsets presence shapes n p₀ i₀ step₀ like₀ out p i step like = b - i
 
 shapes-of-requires : tie.Need-shapes-of-requires Inv-loop μ-loop
 shapes-of-requires c κs = c .before .before .before .before .before .before .before .before .before .before .before .before .before .before .before .pre .0 .modest
 
 loop-holds : tie.Need-loop-holds Inv-loop μ-loop
-loop-holds c = (omega arith, range-start _ _, λ e. never e)
+loop-holds c = (c .before .before .before .before .before .before .before .before .before .before .before .before .before .before .before .before .pre .2, left-start, λ e. never e)
 
 sub-put-alike : tie.Need-sub-put-alike Inv-loop μ-loop
 sub-put-alike c = let f = c .before .before .before .loop .inv .2 (c .before .if1 .taken) in omega (arith, f .some)
@@ -39,23 +38,23 @@ put-alike-requires c κs =
     let m = c .before .before .before .before .shapes-of .ensures in
     let l = c .before .before .before .loop in
     let f = l .inv .2 (c .before .if1 .taken) in
-    (supplied-of _ _ _ _ m (s .pre .1) (s .pre .0), f .alike, omega (arith, f .some), f .long, eights-room _ (l .i) _ (f .alike .clear .few) (l .inv .1) (room-as (frames-is _ _ _ _ m (s .pre .1) _ (s .pre .0 .ids)) (s .pre .2)))
+    (supplied-of _ _ _ _ m (s .pre .1) (s .pre .0), alike-before (f .alike) (omega (arith, s .pre .3, s .pre .0 .ids)), omega (arith, f .some), f .long, eights-room _ (l .i) _ (f .alike .clear .few) (l .inv .1) (room-as (run-is _ _ _ _ m (s .pre .1) _ _) (s .pre .4)))
 
 add-i : tie.Need-add-i Inv-loop μ-loop
-add-i c = let f = c .before .before .before .before .before .before .loop .inv .2 (c .before .before .before .before .if1 .taken) in omega (arith, f .alike .clear .few, c .before .before .before .before .before .before .before .before .before .before .before .before .before .before .before .before .before .before .before .before .before .before .before .pre .0 .modest .frames, c .before .before .before .before .before .before .before .before .before .before .before .before .before .before .before .before .before .before .before .before .before .before .before .pre .0 .ids)
+add-i c = let f = c .before .before .before .before .before .before .loop .inv .2 (c .before .before .before .before .if1 .taken) in let s = c .before .before .before .before .before .before .before .before .before .before .before .before .before .before .before .before .before .before .before .before .before .before .before in omega (arith, f .alike .clear .few, s .pre .0 .modest .frames, s .pre .3)
 
 is-clear-requires : tie.Need-is-clear-requires Inv-loop μ-loop
 is-clear-requires c κs =
     let s = c .before .before .before .before .before .before .before .before .before .before .before .before .before .before .before .before .before .before .before .before .before .before .before in
     let r = supplied-of _ _ _ _ (c .before .before .before .before .before .before .before .shapes-of .ensures) (s .pre .1) (s .pre .0) in
     let h = c .before .before .before .before .before .before .loop .inv .2 (c .before .before .before .before .if1 .taken) .alike .clear .few in
-    (ranges-where (r .item .ranges), r .frames, omega arith, omega (arith, h))
+    (ranges-where (r .item .ranges), r .frames, omega arith, omega (arith, h), omega (arith, s .pre .3, s .pre .0 .ids))
 
 is-calm-requires : tie.Need-is-calm-requires Inv-loop μ-loop
 is-calm-requires c κs =
     let s = c .before .before .before .before .before .before .before .before .before .before .before .before .before .before .before .before .before .before .before .before .before .before .before .before .before in
     let r = supplied-of _ _ _ _ (c .before .before .before .before .before .before .before .before .before .shapes-of .ensures) (s .pre .1) (s .pre .0) in
-    ((ranges-where (r .fod .ranges), ranges-where (r .whispy .ranges), ranges-where (r .stadium .ranges)), r .seats, r .frames, omega arith, c .before .is-clear .ensures (c .if2 .taken) .few)
+    ((ranges-where (r .fod .ranges), ranges-where (r .whispy .ranges), ranges-where (r .stadium .ranges)), r .seats, r .frames, omega arith, omega (arith, c .before .is-clear .ensures (c .if2 .taken) .few, s .pre .3, s .pre .0 .ids))
 
 loop-less : tie.Need-loop-less Inv-loop μ-loop
 loop-less c = omega (arith, c .before .before .before .before .before .before .before .before .loop-test .taken)
@@ -81,25 +80,25 @@ put-frame-requires c κs =
     let m = c .before .before .before .before .shapes-of .ensures in
     let l = c .before .before .before .loop in
     let t = c .before .before .loop-test .taken in
-    (supplied-of _ _ _ _ m (s .pre .1) (s .pre .0), t, range-room _ (l .i) _ (l .inv .1) t (room-as (frames-is _ _ _ _ m (s .pre .1) _ (s .pre .0 .ids)) (s .pre .2)))
+    (supplied-of _ _ _ _ m (s .pre .1) (s .pre .0), omega (arith, t, s .pre .3, s .pre .0 .ids), range-room _ (l .i) _ (l .inv .1) t (room-as (run-is _ _ _ _ m (s .pre .1) _ _) (s .pre .4)))
 
 sub-step : tie.Need-sub-step Inv-loop μ-loop
 sub-step c = omega (arith, c .before .before .put-frame .ensures .next-is)
 
 add-i-2 : tie.Need-add-i-2 Inv-loop μ-loop
-add-i-2 c = let s = c .before .before .before .before .before .before .before .before .before .before .before .before .before .before .before .before .before .before .before .before .before .before .before in omega (arith, c .before .before .before .before .before .loop-test .taken, s .pre .0 .modest .frames, s .pre .0 .ids)
+add-i-2 c = let s = c .before .before .before .before .before .before .before .before .before .before .before .before .before .before .before .before .before .before .before .before .before .before .before in omega (arith, c .before .before .before .before .before .loop-test .taken, s .pre .0 .modest .frames, s .pre .3)
 
 is-clear-requires-2 : tie.Need-is-clear-requires-2 Inv-loop μ-loop
 is-clear-requires-2 c κs =
     let s = c .before .before .before .before .before .before .before .before .before .before .before .before .before .before .before .before .before .before .before .before .before .before .before in
     let r = supplied-of _ _ _ _ (c .before .before .before .before .before .before .before .shapes-of .ensures) (s .pre .1) (s .pre .0) in
-    (ranges-where (r .item .ranges), r .frames, omega arith, omega (arith, c .before .before .before .before .before .loop-test .taken))
+    (ranges-where (r .item .ranges), r .frames, omega arith, omega (arith, c .before .before .before .before .before .loop-test .taken), omega (arith, s .pre .3, s .pre .0 .ids))
 
 is-calm-requires-2 : tie.Need-is-calm-requires-2 Inv-loop μ-loop
 is-calm-requires-2 c κs =
     let s = c .before .before .before .before .before .before .before .before .before .before .before .before .before .before .before .before .before .before .before .before .before .before .before .before .before in
     let r = supplied-of _ _ _ _ (c .before .before .before .before .before .before .before .before .before .shapes-of .ensures) (s .pre .1) (s .pre .0) in
-    ((ranges-where (r .fod .ranges), ranges-where (r .whispy .ranges), ranges-where (r .stadium .ranges)), r .seats, r .frames, omega arith, c .before .is-clear2 .ensures (c .if3 .taken) .few)
+    ((ranges-where (r .fod .ranges), ranges-where (r .whispy .ranges), ranges-where (r .stadium .ranges)), r .seats, r .frames, omega arith, omega (arith, c .before .is-clear2 .ensures (c .if3 .taken) .few, s .pre .3, s .pre .0 .ids))
 
 loop-less-3 : tie.Need-loop-less-3 Inv-loop μ-loop
 loop-less-3 c = omega (arith, c .before .before .before .before .before .before .before .before .loop-test .taken)
@@ -126,7 +125,7 @@ returns : tie.Need-returns Inv-loop μ-loop
 returns c =
     let s = c .before .before .before .before .before .before .before .before .before .before .before .before .before .before .before .before .before .before in
     let m = c .before .before .shapes-of .ensures in
-    wrote-as (sym (frames-is _ _ _ _ m (s .pre .1) _ (s .pre .0 .ids))) (range-done _ _ _ (c .before .loop .inv .1) (c .loop-test .left))
+    wrote-as (sym (run-is _ _ _ _ m (s .pre .1) _ _)) (range-done _ _ _ (c .before .loop .inv .1) (c .loop-test .left))
 
 pub put-frames-spec : {M : Type 1} → statement M
 put-frames-spec =

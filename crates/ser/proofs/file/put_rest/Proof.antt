@@ -1,6 +1,7 @@
 -- `ser::file::put_rest` meets its contract: four parts, one after the other.
 -- Assumes nothing.
 use mathlib.Core.Path.{refl, sym, _∙_}
+use native.Mathlib.Omega.{arith}
 use borrow.Author.Needs.{needs}
 use Rattle.wire.proofs.Writers.{room-as, room-first, room-second, wrote-as, wrote-then}
 use Rattle.ser.proofs.Fronts.{rest-parts}
@@ -15,7 +16,7 @@ put-frames-requires : tie.Need-put-frames-requires
 put-frames-requires c κs =
     let s = c .before .before .before .before .before .before .before .before .before .before .before .before .before .before .before .before .before .before .before .before .before .before .before .before .before in
     let r = room-as (rest-parts _ _ _ _ _ _ (sym (c .before .before .before .before .is-given .ensures)) refl) (c .before .before .before .before .before .before .before .before .before .before .before .before .before .before .before .before .before .before .before .before .before .before .before .before .before .pre .3) in
-    (s .pre .1, s .pre .2, room-first _ (room-second r (c .before .before .before .put-codes .ensures)))
+    (s .pre .1, s .pre .2, omega arith, omega arith, room-first _ (room-second r (c .before .before .before .put-codes .ensures)))
 
 put-ends-requires : tie.Need-put-ends-requires
 put-ends-requires c κs =

@@ -1,0 +1,5 @@
+pub mod Lengths
+pub mod Outcomes
+pub mod Runs
+pub mod Only
+pub mod Cases

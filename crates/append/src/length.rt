@@ -1,0 +1,100 @@
+// How many bytes a run of frames has, by counts: what is judged before anything is written.
+ghost use mathlib.Core.Path.{_≡_};
+ghost use mathlib.Core.Bool.{false};
+ghost use Prim.Native.Nat.{_-_, _*_, _≤_};
+ghost use Rattle.game.specs.Frames.{slotsOf};
+ghost use Rattle.game.specs.Stores.{offsets};
+ghost use Rattle.players.specs.Inner.{Covers, Modest, Slotted};
+ghost use Rattle.players.specs.Presence.{marked, countFrom, presenceWrong};
+ghost use Rattle.frames.specs.Inner.{Placed};
+ghost use Rattle.layout.specs.declared.columns.Family.the-variants.{Item, FodPlatform, DreamlandWhispy, StadiumTransformation};
+ghost use Rattle.events.specs.Length.{eventSize, playersOver, rowsBetween, runLength};
+use format::version::Version;
+use game::frames::Frames;
+use layout::columns::Family;
+use layout::payloads::record_size;
+use players::presence::present_in;
+use players::slots::Slots;
+
+// n records of a family; none where the version lacks it.
+fn records_len(v: Version, family: Family, n: usize) -> usize
+    requires { ⌜ n ≤ 8388608 ⌝ }
+    ensures { λ r. ⌜ (r ≡ n * eventSize v family) × (r ≤ 2147483648) ⌝ }
+{
+    if family.exists(v) {
+        return n * (1 + record_size(family, v));
+    }
+    0
+}
+
+// The rows by offsets of the frames from a on and before b.
+fn rows_len(f: Frames, family: Family, offsets: &[u32], a: usize, b: usize) -> usize
+    requires { ⌜ Modest f × Placed f family (now offsets) × (a ≤ b) × (b ≤ f .counts .frames) ⌝ }
+    ensures { λ r. ⌜ (r ≡ rowsBetween (now (offsets .entry)) a b * eventSize (f .version) family) × (r ≤ 2147483648) ⌝ }
+{
+    if family.exists(f.version) {
+        let first = offsets[a] as usize;
+        let next = offsets[b] as usize;
+        return records_len(f.version, family, next - first);
+    }
+    0
+}
+
+// In how many of the frames from a on and before b a player is, by its len presence bytes from index at on: those before b, less those before a.
+fn present_between(presence: &[u8], at: usize, len: u32, a: usize, b: usize) -> usize
+    requires { ⌜ Covers (now presence) at len b × (a ≤ b) ⌝ }
+    ensures { λ r. ⌜ r ≡ countFrom (marked (now (presence .entry)) at len) a (b - a) ⌝ }
+{
+    let before = present_in(presence, at, len, a);
+    present_in(presence, at, len, b) - before
+}
+
+// How many players the frames from a on and before b have together.
+fn players_between(f: Frames, s: Slots, presence: &[u8], a: usize, b: usize) -> usize
+    requires { ⌜ Modest f × Slotted f s × (presenceWrong f (now presence) ≡ false) × (a ≤ b) × (b ≤ f .counts .frames) ⌝ }
+    ensures { λ r. ⌜ (r ≡ playersOver (now (presence .entry)) (slotsOf f) a (b - a)) × (r ≤ 8388608) ⌝ }
+{
+    let mut n: usize = 0;
+    let mut k = 0;
+    while k < s.count {
+        let at = s.at[k];
+        let len = s.len[k];
+        n += present_between(presence, at, len, a, b);
+        k += 1;
+    }
+    n
+}
+
+// The events of the frames from a on and before b.
+pub fn run_len(
+    f: Frames,
+    s: Slots,
+    item_offsets: &[u32],
+    fod_offsets: &[u32],
+    whispy_offsets: &[u32],
+    stadium_offsets: &[u32],
+    presence: &[u8],
+    a: usize,
+    b: usize,
+) -> usize
+    requires { ⌜ (Modest f × Slotted f s × (presenceWrong f (now presence) ≡ false))
+        × (Placed f Item (now «item_offsets») × Placed f FodPlatform (now «fod_offsets»)
+        × Placed f DreamlandWhispy (now «whispy_offsets») × Placed f StadiumTransformation (now «stadium_offsets»))
+        × (a ≤ b)
+        × (b ≤ f .counts .frames) ⌝ }
+    ensures { λ r. ⌜ r ≡ runLength f
+        (offsets (now («item_offsets» .entry)) (now («fod_offsets» .entry)) (now («whispy_offsets» .entry)) (now («stadium_offsets» .entry)))
+        (now (presence .entry)) a b ⌝ }
+{
+    let v = f.version;
+    let players = players_between(f, s, presence, a, b);
+    let starts = records_len(v, Family::FrameStart, b - a);
+    let pres = records_len(v, Family::Pre, players);
+    let fods = rows_len(f, Family::FodPlatform, fod_offsets, a, b);
+    let whispys = rows_len(f, Family::DreamlandWhispy, whispy_offsets, a, b);
+    let stadiums = rows_len(f, Family::StadiumTransformation, stadium_offsets, a, b);
+    let items = rows_len(f, Family::Item, item_offsets, a, b);
+    let posts = records_len(v, Family::Post, players);
+    let ends = records_len(v, Family::FrameEnd, b - a);
+    starts + (pres + (fods + (whispys + (stadiums + (items + (posts + ends))))))
+}
