@@ -243,8 +243,13 @@ typedef struct {
 	uint8_t minor, major;
 } slp_scene;
 
+/* The bytes of the start block after the zero that ends the match id, through 751: zeros, or what the template has there. Who saves a file again
+ * byte for byte keeps them. */
+enum { SLP_TAIL_CLEARED = 0, SLP_TAIL_KEPT = 1 };
+
 typedef struct {
 	uint8_t given;   /* a mark */
+	uint8_t tail;    /* SLP_TAIL_CLEARED, or SLP_TAIL_KEPT; every other number is kept too */
 	slp_text id;     /* at most 50 bytes */
 	uint32_t game, tiebreaker;
 } slp_match;

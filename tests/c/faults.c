@@ -201,6 +201,12 @@ static slp_game misread(slp_game g)
 		g.start.match_info.id.bytes[49] = 1;
 	if (faulty("write-zero-past") && g.frames.version.minor == 18 && memchr(g.start.seats[1].name_tag.bytes, 0, 17))
 		g.start.seats[1].kind = 3;
+	if (faulty("write-tail-kept"))
+		g.start.match_info.tail = SLP_TAIL_KEPT;
+	if (faulty("write-tail-cleared"))
+		g.start.match_info.tail = SLP_TAIL_CLEARED;
+	if (faulty("write-tail-two") && g.start.match_info.tail > 1)
+		g.start.match_info.tail = SLP_TAIL_CLEARED;
 	return g;
 }
 

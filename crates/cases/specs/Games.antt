@@ -37,7 +37,7 @@ startWith seat id = record {
   «is_frozen_ps» = zeroByte;
   scene = record { given = 1; minor = 0; major = 0 };
   language = zeroByte;
-  «match_info» = record { given = 1; id = id; game = 0; tiebreaker = 0 };
+  «match_info» = record { given = 1; tail = 0; id = id; game = 0; tiebreaker = 0 };
 }
 
 abbrev pub plainStart : Start

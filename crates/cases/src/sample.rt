@@ -95,6 +95,7 @@ fn plain_start() -> Start
         language: byte,
         match_info: Match {
             given: 1,
+            tail: 0,
             id: no_text(),
             game: 0,
             tiebreaker: 0,

@@ -1,3 +1,4 @@
 pub mod Frames
 pub mod Stores
 pub mod Zero
+pub mod MatchTails

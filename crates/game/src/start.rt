@@ -1,4 +1,6 @@
 // What starts a game. A mark is a byte: nonzero is yes. Floats and signed numbers are their bits.
+ghost use mathlib.Core.Path.{_≡_};
+ghost use Rattle.game.specs.MatchTails.{matchTailNumber, matchTailOf};
 
 // A text of up to 50 bytes: the first `len` of them.
 #[repr(C)]
@@ -71,10 +73,40 @@ pub struct Scene {
     pub major: u8,
 }
 
-// The match that a game belongs to.
+// The bytes of a block after the zero that ends its match id, through 751: zeros, or what the template has there.
+pub enum MatchTail {
+    Cleared,
+    Kept,
+}
+
+impl MatchTail {
+    // As a match carries it.
+    pub fn number(self) -> u8
+        ensures { λ r. ⌜ r ≡ matchTailNumber self ⌝ }
+    {
+        match self {
+            MatchTail::Cleared => 0,
+            MatchTail::Kept => 1,
+        }
+    }
+
+    // 0 is cleared, every other number kept.
+    pub fn of(number: u8) -> MatchTail
+        ensures { λ r. ⌜ r ≡ matchTailOf number ⌝ }
+    {
+        if number == 0 {
+            MatchTail::Cleared
+        } else {
+            MatchTail::Kept
+        }
+    }
+}
+
+// The match that a game belongs to. `tail` is the number of a `MatchTail`.
 #[repr(C)]
 pub struct Match {
     pub given: u8,
+    pub tail: u8,
     pub id: Text,
     pub game: u32,
     pub tiebreaker: u32,

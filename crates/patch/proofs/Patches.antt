@@ -82,15 +82,15 @@ module _ (at : ℕ) (os ws vs : List ℕ) (j : ℕ) where
   numbers-done h left = rw (drop-of-length-le os h) at left
 
 -- ---- a text, and zeros after it
-take-replicate : (m n a : ℕ) → m ≤ n → take m (replicate n a) ≡ replicate m a
+pub take-replicate : (m n a : ℕ) → m ≤ n → take m (replicate n a) ≡ replicate m a
 take-replicate zero n a h = refl
 take-replicate (suc m) zero a h = absurd (omega arith)
 take-replicate (suc m) (suc n) a h = ap (λ l. a ∷ l) (take-replicate m n a (omega arith))
 
-pub wrote-filled : {a b c : List ℕ} {at mid next : ℕ} (t : Text) (width n : ℕ) → width - t .len ≤ n
-    → Wrote a b at mid (take (t .len) (t .bytes)) → Wrote b c mid next (take (width - t .len) (replicate n 0)) → Wrote a c at next (zeroFilled width t)
+pub wrote-filled : {a b c : List ℕ} {at mid next : ℕ} (t : Text) (width : ℕ)
+    → Wrote a b at mid (take (t .len) (t .bytes)) → Wrote b c mid next (replicate (width - t .len) 0) → Wrote a c at next (zeroFilled width t)
 unfolding zeroFilled
-wrote-filled t width n h p q = wrote-then p (wrote-as (take-replicate (width - t .len) n 0 h) q)
+wrote-filled t width p q = wrote-then p q
 
 -- a text that is zeroFilled by one byte ends with one zero
 pub ended : (t : Text) → zeroFilled (t .len + 1) t ≡ text t ++ (0 ∷ [])

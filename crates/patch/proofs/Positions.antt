@@ -8,8 +8,8 @@ use native.Mathlib.Omega.{arith}
 use lib.ListN.{length, take, drop, getD, set, length-set, length-take, length-drop}
 use lib.Seq.{getD-set-other, getD-take, getD-drop, ext-getD, drop-append-add, drop-append-le, take-append-le}
 use Rattle.wire.specs.Wire.{splice, part, keep}
-use Rattle.wire.proofs.Laws.{length-splice}
-use Rattle.patch.specs.Patch.{Patch, patched}
+use Rattle.wire.proofs.Laws.{length-splice, part-splice}
+use Rattle.patch.specs.Patch.{Patch, patch, patched}
 use Rattle.patch.proofs.Patches.{length-patched, patched-append}
 
 -- no patch stores a byte at index i
@@ -39,6 +39,29 @@ pub patched-other : (block : List ℕ) (ps : List Patch) (i : ℕ) → Misses i 
 unfolding patched Misses
 patched-other block [] i m = refl
 patched-other block (p ∷ ps) i m = patched-other (splice block (p .offset) (p .bytes)) ps i (m .1) ∙ splice-other block (p .offset) (p .bytes) i (m .0)
+
+-- ---- a byte that two blocks have in common stays common under the same patches
+
+set-same : (a b : List ℕ) (at y i : ℕ) → length a ≡ length b → getD a i 0 ≡ getD b i 0 → getD (set a at y) i 0 ≡ getD (set b at y) i 0
+set-same [] [] at y i l e = e
+set-same [] (z ∷ b) at y i l e = absurd (omega arith)
+set-same (x ∷ a) [] at y i l e = absurd (omega arith)
+set-same (x ∷ a) (z ∷ b) zero y zero l e = refl
+set-same (x ∷ a) (z ∷ b) zero y (suc i) l e = e
+set-same (x ∷ a) (z ∷ b) (suc at) y zero l e = e
+set-same (x ∷ a) (z ∷ b) (suc at) y (suc i) l e = set-same a b at y i (omega arith) e
+
+splice-same : (a b : List ℕ) (at : ℕ) (ys : List ℕ) (i : ℕ) → length a ≡ length b → getD a i 0 ≡ getD b i 0 → getD (splice a at ys) i 0 ≡ getD (splice b at ys) i 0
+unfolding splice
+splice-same a b at [] i l e = e
+splice-same a b at (y ∷ ys) i l e = splice-same (set a at y) (set b at y) (suc at) ys i (length-set a at y ∙ l ∙ sym (length-set b at y)) (set-same a b at y i l e)
+
+pub patched-same : (a b : List ℕ) (ps : List Patch) (i : ℕ) → length a ≡ length b → getD a i 0 ≡ getD b i 0 → getD (patched a ps) i 0 ≡ getD (patched b ps) i 0
+unfolding patched
+patched-same a b [] i l e = e
+patched-same a b (p ∷ ps) i l e =
+    patched-same (splice a (p .offset) (p .bytes)) (splice b (p .offset) (p .bytes)) ps i
+    (length-splice a (p .offset) (p .bytes) ∙ l ∙ sym (length-splice b (p .offset) (p .bytes))) (splice-same a b (p .offset) (p .bytes) i l e)
 
 -- ---- a part that is missed stays
 
@@ -73,11 +96,29 @@ unfolding part
 part-inside front xs rest at w h =
     ap (take w) (drop-append-add front (xs ++ rest) at ∙ drop-append-le at xs rest (omega arith)) ∙ take-append-le w (drop at xs) rest (omega (arith, length-drop at xs))
 
+-- bytes of two lists that stand inside another one
+joined-same : (a b rest : List ℕ) (i : ℕ) → length a ≡ length b → getD a i 0 ≡ getD b i 0 → getD (a ++ rest) i 0 ≡ getD (b ++ rest) i 0
+joined-same [] [] rest i l e = refl
+joined-same [] (z ∷ b) rest i l e = absurd (omega arith)
+joined-same (x ∷ a) [] rest i l e = absurd (omega arith)
+joined-same (x ∷ a) (z ∷ b) rest zero l e = e
+joined-same (x ∷ a) (z ∷ b) rest (suc i) l e = joined-same a b rest i (omega arith) e
+
+pub inside-same : (front a b rest : List ℕ) (i : ℕ) → length a ≡ length b → ((j : ℕ) → i ≡ length front + j → getD a j 0 ≡ getD b j 0)
+    → getD (front ++ (a ++ rest)) i 0 ≡ getD (front ++ (b ++ rest)) i 0
+inside-same [] a b rest i l h = joined-same a b rest i l (h i (omega arith))
+inside-same (x ∷ front) a b rest zero l h = refl
+inside-same (x ∷ front) a b rest (suc i) l h = inside-same front a b rest i l (λ j e. h j (omega arith))
+
 -- ---- patches that fill a field
 
 -- whatever block of n bytes or more they are stored over, the w bytes from index at on are then these
 pub record Fills (n at w : ℕ) (bytes : List ℕ) (ps : List Patch) : Type 0 where
   pub filled : (block : List ℕ) → n ≤ length block → part (patched block ps) at w ≡ bytes
+
+pub fills-bytes : (n at w : ℕ) (bytes : List ℕ) → length bytes ≡ w → at + w ≤ n → Fills n at w bytes (patch at bytes ∷ [])
+unfolding patched
+fills-bytes n at w bytes e room = record { filled = λ block long. rw e at (part-splice block at bytes (omega arith)) }
 
 module _ {n at w : ℕ} {bytes : List ℕ} where
   pub fills-after : {ps : List Patch} (qs : List Patch) → Fills n at w bytes ps → Fills n at w bytes (qs ++ ps)

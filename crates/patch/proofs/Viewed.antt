@@ -51,11 +51,11 @@ part-filled block at t w h l room =
     rw e at (part-splice block at (zeroFilled w t) (rw e room))
 
 -- the text was written, and zeros after it
-pub field-filled : {a b c : List ℕ} {at mid next : ℕ} (t : Text) (w n : ℕ) → w - t .len ≤ n → t .len ≤ length (t .bytes) → t .len ≤ w → at + w ≤ length a
-    → Wrote a b at mid (take (t .len) (t .bytes)) → Wrote b c mid next (take (w - t .len) (replicate n 0))
+pub field-filled : {a b c : List ℕ} {at mid next : ℕ} (t : Text) (w : ℕ) → t .len ≤ length (t .bytes) → t .len ≤ w → at + w ≤ length a
+    → Wrote a b at mid (take (t .len) (t .bytes)) → Wrote b c mid next (replicate (w - t .len) 0)
     → Wrote a c at next (zeroFilled w t) × (part c at w ≡ zeroFilled w t)
-field-filled {a} {at = at} t w n m h l room p q =
-    let wrote = wrote-filled t w n m p q in
+field-filled {a} {at = at} t w h l room p q =
+    let wrote = wrote-filled t w p q in
     (wrote, ap (λ (x : List ℕ). part x at w) (wrote .after-is) ∙ part-filled a at t w h l room)
 
 pub read-filled : (t : Text) (w : ℕ) → zeroInside t ≡ false → readText (zeroFilled w t) ≡ text t

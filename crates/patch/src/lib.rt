@@ -2,7 +2,7 @@
 ghost use mathlib.Core.Path.{_≡_};
 ghost use mathlib.Core.Bool.{cond};
 ghost use Prim.Native.Nat.{_+_, _≤_};
-ghost use lib.ListN.{length, take};
+ghost use lib.ListN.{length, take, replicate};
 ghost use Rattle.wire.specs.Wire.{part, Wrote};
 ghost use Rattle.patch.specs.Field.{flagOf, zeroFilled};
 ghost use Rattle.patch.specs.Inner.{Patched, numberPatches, Fit};
@@ -49,14 +49,22 @@ fn put_first(block: &mut [u8], at: usize, src: &[u8], n: usize) -> usize
     wire::put_bytes(block, at, &src[..n])
 }
 
+// So many zeros.
+pub fn put_zeros(block: &mut [u8], at: usize, n: usize) -> usize
+    requires { ⌜ (n ≤ 51) × (at + n ≤ length (now block)) ⌝ }
+    ensures { λ r. ⌜ Wrote (now (block .entry)) (now (block .exit)) at r (replicate n 0) ⌝ }
+{
+    let zeros = [0u8; 51];
+    put_first(block, at, &zeros, n)
+}
+
 // A text, and zeros up to the field's width.
 pub fn put_filled(block: &mut [u8], at: usize, width: usize, t: Text) -> usize
     requires { ⌜ (t .len ≤ 50) × (t .len ≤ width) × (width ≤ 51) × (at + width ≤ length (now block)) ⌝ }
     ensures { λ r. ⌜ Wrote (now (block .entry)) (now (block .exit)) at r (zeroFilled width t) × (part (now (block .exit)) at width ≡ zeroFilled width t) ⌝ }
 {
-    let zeros = [0u8; 51];
     let n = t.len;
     let rest = width - n;
     let next = put_first(block, at, &t.bytes, n);
-    put_first(block, next, &zeros, rest)
+    put_zeros(block, next, rest)
 }

@@ -61,6 +61,10 @@ module _ (g : Game) (s : Stores) where
   start-size : length (eventBytes (startEvent g s)) ≡ 1 + length (s .template)
   start-size = let e = length-start-block (g .frames .version) (g .start) (s .template) in omega arith
 
+  -- the start block's part in it is the template's length, whatever the fields
+  pub length-events : length (eventsBytes (events g s)) ≡ 1 + length (s .template) + length parts
+  length-events = ap length events-parts ∙ length-append (eventBytes (startEvent g s)) parts ∙ ap (λ (n : ℕ). n + length parts) start-size
+
   -- the bytes from the table through the last event, by counts
   pub length-raw : (yes (g .«codes_given») ≡ true → length (s .codes) ≡ 512 * blockCount (g .«actual_size»)) → Framed (g .frames) (s .lent)
       → length (tableBytes (entries g s) ++ eventsBytes (events g s)) ≡ rawLength g (s .lent .presence) (length (s .template))

@@ -11,7 +11,7 @@ use mathlib.Core.List.{List, [], _∷_, _++_}
 use Prim.Native.Nat.{ℕ, _+_, _≤_, _<_}
 use native.Mathlib.Omega.{arith}
 use lib.ListN.{length, take, getD, length-append}
-use Rattle.wire.specs.Wire.{be}
+use Rattle.wire.specs.Wire.{be, part}
 use Rattle.wire.proofs.Laws.{length-be}
 use Rattle.format.specs.Event.{codeOf, signature}
 use Rattle.format.specs.File.{tableBytes, eventsBytes}
@@ -25,6 +25,8 @@ use Rattle.game.specs.Zero.{noSeat}
 use Rattle.game.specs.Stores.{Stores}
 use Rattle.game.specs.declared.start.Seat.{Seat}
 use Rattle.game.specs.declared.Game.{Game}
+use Rattle.patch.proofs.Positions.{Fills}
+use Rattle.start.specs.Block.{fields}
 use Rattle.start.specs.Gate.{reaches, matchFrom}
 use Rattle.start.specs.Length.{lengthOf}
 use Rattle.start.proofs.Refusals.{block-fits}
@@ -40,32 +42,38 @@ use Rattle.ser.proofs.Answered.{accepted, written-file}
 abbrev pub blockPlace : Game → Stores → ℕ
 blockPlace g s = firstPlace (entries g s) + 1
 
-module _ {g : Game} {s : Stores} (p : Passed g s) where
-  abbrev front : List ℕ
+module _ (g : Game) (s : Stores) where
+  abbrev pub front : List ℕ
   front = frontBytes (g .frames .version) (g .«codes_given») (g .«actual_size») (length (s .template)) (length (tableBytes (entries g s) ++ eventsBytes (events g s)))
 
-  abbrev rest : List ℕ
+  abbrev pub rest : List ℕ
   rest = restBytes g (s .lent) (s .codes) (s .metadata)
 
-  length-front : length front ≡ blockPlace g s
+  pub length-front : length front ≡ blockPlace g s
   unfolding frontBytes
   length-front = simp (length-append, length-be, length-table) (omega arith)
 
+module _ {g : Game} {s : Stores} (p : Passed g s) where
   long : lengthOf (g .frames .version) ≤ length (s .template)
   long = block-fits (g .frames .version) (length (s .template)) (p .block) .0
+
+  -- a field that the block's patches fill
+  pub in-file : {at w : ℕ} {bytes : List ℕ} → at + w ≤ lengthOf (g .frames .version) → Fills (lengthOf (g .frames .version)) at w bytes (fields (g .frames .version) (g .start))
+      → part (file g s) (blockPlace g s + at) w ≡ bytes
+  in-file h f = rw (file-parts g s, ← length-front g s) (views.in-block (g .frames .version) (g .start) (s .template) (front g s) (rest g s) long (p .start) h f)
 
   -- the texts of each player who is there
   pub texts-read : length (g .start .seats) ≡ 4 → (n : ℕ) → n < 4 → yes (getD (g .start .seats) n noSeat .given) ≡ true
       → views.Arrays (getD (g .start .seats) n noSeat)
       → views.Read (g .frames .version) (file g s) (blockPlace g s) n (getD (g .start .seats) n noSeat)
   texts-read four n l given arrays =
-      rw (file-parts g s, ← length-front) (views.texts-read (g .frames .version) (g .start) (s .template) front rest long (p .start) four n l given arrays)
+      rw (file-parts g s, ← length-front g s) (views.texts-read (g .frames .version) (g .start) (s .template) (front g s) (rest g s) long (p .start) four n l given arrays)
 
   -- the match id
   pub match-id-read : reaches (g .frames .version) matchFrom ≡ true → length (g .start .«match_info» .id .bytes) ≡ 50
       → readAt (file g s) (blockPlace g s + 701) 51 ≡ text (g .start .«match_info» .id)
   match-id-read on array =
-      rw (file-parts g s, ← length-front) (views.match-id-read (g .frames .version) (g .start) (s .template) front rest long (p .start) on array)
+      rw (file-parts g s, ← length-front g s) (views.match-id-read (g .frames .version) (g .start) (s .template) (front g s) (rest g s) long (p .start) on array)
 
 -- the same of what `write` answered and left
 module _ {g : Game} {s : Stores} {out out′ : List ℕ} {n : ℕ} (o : Outcome g s out (File n) out′) where

@@ -1,12 +1,15 @@
--- Two start blocks byte by byte. The template's bytes are 170: they stay wherever the version writes no field.
+-- Two start blocks byte by byte, and the bytes of match ids, cleared and kept. The template's bytes are 170: they stay wherever the version writes no field.
 -- Assumes nothing.
 use mathlib.Core.Path.{_≡_, refl}
-use mathlib.Core.List.{List, [], _∷_, _++_}
+use mathlib.Core.List.{List, [], _∷_, _++_, map}
 use Prim.Native.Nat.{ℕ}
 use lib.ListN.{replicate}
-use Rattle.wire.specs.Wire.{be, splice, keep}
+use Rattle.wire.specs.Wire.{be, splice, keep, part}
 use Rattle.format.specs.Version.{version, above, gteOf}
-use Rattle.start.proofs.Samples.{netplay, player, nobody, start}
+use Rattle.game.specs.MatchTails.{matchTailOf}
+use Rattle.game.specs.declared.start.MatchTail.{MatchTail}
+use Rattle.game.specs.declared.start.MatchTail.the-variants.{Cleared, Kept}
+use Rattle.start.proofs.Samples.{letters, netplay, player, nobody, start, startTailed}
 use Rattle.patch.specs.Patch.{patched}
 use Rattle.patch.specs.Field.{zeroFilled}
 use Rattle.start.specs.Block.{gameFields, playerFields, textFields, portFields, seatsFields, modeFields, matchFields, fields, startBlock}
@@ -24,7 +27,7 @@ zeros n = replicate n 0
 letter : ℕ → List ℕ
 letter n = replicate n 65
 
--- 3.18.0, in port 1 a CPU with a team: all is written, and after the match id one zero
+-- 3.18.0, in port 1 a CPU with a team: all is written, and after the match id one zero, its tail kept
 newest : startBlock (version 3 18 0) (start (nobody ∷ player 1 1 1 1 1 3 (netplay 1 1 30 9 28) ∷ nobody ∷ nobody ∷ []) 1 4) (stays 760)
     ≡ joined
     ((3 ∷ 18 ∷ 0 ∷ [])  -- 0
@@ -130,3 +133,22 @@ oldest : startBlock (version 0 1 0) (start (nobody ∷ nobody ∷ nobody ∷ pla
     ∷ [])
 unfolding joined stays zeros letter startBlock fields gameFields playerFields textFields portFields seatsFields modeFields matchFields patched splice be keep zeroFilled gteOf above
 oldest = refl
+
+-- ---- the match id's tail
+
+-- the 51 bytes from 701 on, for an id of so many bytes
+id-bytes : MatchTail → ℕ → List ℕ
+id-bytes tail n = part (startBlock (version 3 18 0) (startTailed tail (nobody ∷ nobody ∷ nobody ∷ nobody ∷ []) 1 (letters n)) (stays 760)) 701 51
+
+cleared : map (id-bytes Cleared) (0 ∷ 1 ∷ 49 ∷ 50 ∷ []) ≡ zeros 51 ∷ (letter 1 ++ zeros 50) ∷ (letter 49 ++ zeros 2) ∷ (letter 50 ++ zeros 1) ∷ []
+unfolding id-bytes part stays zeros letter startBlock fields gameFields seatsFields modeFields matchFields patched splice be keep gteOf above
+cleared = refl
+
+kept : map (id-bytes Kept) (0 ∷ 1 ∷ 49 ∷ 50 ∷ [])
+    ≡ (zeros 1 ++ stays 50) ∷ (letter 1 ++ (zeros 1 ++ stays 49)) ∷ (letter 49 ++ (zeros 1 ++ stays 1)) ∷ (letter 50 ++ zeros 1) ∷ []
+unfolding id-bytes part stays zeros letter startBlock fields gameFields seatsFields modeFields matchFields patched splice be keep gteOf above
+kept = refl
+
+-- every number but 0 is kept
+ways : map matchTailOf (0 ∷ 1 ∷ 2 ∷ 255 ∷ []) ≡ Cleared ∷ Kept ∷ Kept ∷ Kept ∷ []
+ways = refl

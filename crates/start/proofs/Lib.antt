@@ -6,3 +6,4 @@ pub mod Seats
 pub mod Blocks
 pub mod BlockCases
 pub mod Views
+pub mod Tails

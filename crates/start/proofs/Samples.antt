@@ -8,6 +8,9 @@ use Rattle.game.specs.declared.start.Text.{Text}
 use Rattle.game.specs.declared.start.Netplay.{Netplay}
 use Rattle.game.specs.declared.start.Seat.{Seat}
 use Rattle.game.specs.declared.start.Start.{Start}
+use Rattle.game.specs.declared.start.MatchTail.{MatchTail}
+use Rattle.game.specs.declared.start.MatchTail.the-variants.{Kept}
+use Rattle.game.specs.MatchTails.{matchTailNumber}
 
 -- n bytes, each 65
 abbrev pub letters : ℕ → Text
@@ -56,9 +59,9 @@ player kind team level ucf given long net = playerOf kind team level ucf given (
 abbrev pub nobody : Seat
 nobody = seatWith (letters 31)
 
--- a start with these seats, all of its own fields by one mark, and a match id
-abbrev pub startOf : List Seat → ℕ → Text → Start
-startOf seats given id = record {
+-- a start with these seats, all of its own fields by one mark, and a match id whose tail is cleared or kept
+abbrev pub startTailed : MatchTail → List Seat → ℕ → Text → Start
+startTailed tail seats given id = record {
   bitfield = 1 ∷ 2 ∷ 3 ∷ 4 ∷ [];
   «is_raining_bombs» = 0;
   «is_teams» = 255;
@@ -74,8 +77,12 @@ startOf seats given id = record {
   «is_frozen_ps» = record { given = given; value = 0 };
   scene = record { given = given; minor = 11; major = 12 };
   language = record { given = given; value = 1 };
-  «match_info» = record { given = given; id = id; game = 5; tiebreaker = 6 };
+  «match_info» = record { given = given; tail = matchTailNumber tail; id = id; game = 5; tiebreaker = 6 };
 }
+
+-- kept
+abbrev pub startOf : List Seat → ℕ → Text → Start
+startOf seats given id = startTailed Kept seats given id
 
 -- the same, by the length of the match id
 abbrev pub start : List Seat → ℕ → ℕ → Start

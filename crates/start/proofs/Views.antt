@@ -5,7 +5,7 @@ use mathlib.Core.Bool.{Bool, true, false}
 use mathlib.Core.List.{List, [], _∷_, _++_, map}
 use Prim.Native.Nat.{ℕ, zero, suc, _+_, _*_, _-_, _≤_, _<_}
 use native.Mathlib.Omega.{arith}
-use lib.ListN.{length, getD, drop}
+use lib.ListN.{length, getD, length-replicate}
 use Rattle.wire.specs.Wire.{be, keep, part}
 use Rattle.wire.proofs.Laws.{length-be}
 use Rattle.format.specs.declared.version.Version.{Version}
@@ -16,6 +16,9 @@ use Rattle.game.specs.Zero.{noSeat}
 use Rattle.game.specs.declared.start.Text.{Text}
 use Rattle.game.specs.declared.start.Seat.{Seat}
 use Rattle.game.specs.declared.start.Match.{Match}
+use Rattle.game.specs.declared.start.MatchTail.{MatchTail}
+use Rattle.game.specs.declared.start.MatchTail.the-variants.{Cleared, Kept}
+use Rattle.game.specs.MatchTails.{matchTailOf}
 use Rattle.game.specs.declared.start.Start.{Start}
 use Rattle.patch.specs.Patch.{Patch, patch, patched}
 use Rattle.patch.specs.Field.{flagOf, text, zeroFilled, zeroInside, readText, readAt}
@@ -26,14 +29,14 @@ use Rattle.start.specs.declared.gate.Gate.{Gate}
 use Rattle.start.specs.Gate.{reaches, ucfFrom, tagFrom, palFrom, frozenFrom, sceneFrom, netplayFrom, suidFrom, languageFrom, matchFrom}
 use Rattle.start.specs.Length.{lengthOf}
 use Rattle.start.specs.Refusal.{badSeat, badStart}
-use Rattle.start.specs.Block.{gameFields, numberField, textField, playerFields, textFields, portFields, seatsFields, modeFields, matchFields, fields, startBlock}
+use Rattle.start.specs.Block.{gameFields, numberField, textField, playerFields, textFields, portFields, seatsFields, modeFields, matchTail, matchFields, fields, startBlock}
 use Rattle.start.proofs.Lengths.{long-enough}
 use Rattle.start.proofs.Refusals.{Short, short-texts, seat-texts, clean-texts, short-text, clean-text, good-start}
 
 -- ---- fields that lie apart
 
 -- index i is not one of the w bytes from at on
-abbrev Apart : ℕ → ℕ → ℕ → Type 0
+abbrev pub Apart : ℕ → ℕ → ℕ → Type 0
 Apart i at w = at ≤ i → i < at + w → ⊥
 
 -- the bytes of a number, or none
@@ -98,6 +101,12 @@ module _ (v : Version) (i : ℕ) where
       ),
     ),
   )
+
+-- whatever becomes of the match id's tail
+pub apart-tail : (i : ℕ) (tail : MatchTail) (len : ℕ) → Apart i (702 + len) (50 - len)
+    → matchTail tail len .offset ≤ i → i < matchTail tail len .offset + length (matchTail tail len .bytes) → ⊥
+apart-tail i Cleared len h a b = h a (omega (arith, length-replicate {A = ℕ} (50 - len) 0))
+apart-tail i Kept len h a b = omega arith
 
 -- ---- a text's field of port n, and all that is stored after it
 
@@ -195,7 +204,13 @@ module _ (v : Version) {n at w : ℕ} (own : Own n at w) where
   clear-match : (m : Match) → Clear at w (matchFields v m)
   unfolding matchFields Misses
   clear-match m i a b =
-      misses-kept i (reaches v matchFrom) _ (λ on. (λ x y. omega (arith, own .before), (λ x y. omega (arith, own .before), (λ x y. omega (arith, own .before), tt))))
+      misses-kept i (reaches v matchFrom) _ (λ on. (
+        λ x y. omega (arith, own .before),
+        (
+          apart-tail i (matchTailOf (m .tail)) (m .id .len) (λ x y. omega (arith, own .before)),
+          (λ x y. omega (arith, own .before), (λ x y. omega (arith, own .before), tt)),
+        ),
+      ))
 
 -- ---- the texts of a port
 
@@ -315,7 +330,7 @@ module _ (v : Version) (s : Start) (template before after : List ℕ) (long : le
   around = before ++ (startBlock v s template ++ after)
 
   -- a field that the patches fill
-  in-block : {at w : ℕ} {bytes : List ℕ} → at + w ≤ lengthOf v → Fills (lengthOf v) at w bytes (fields v s) → part around (length before + at) w ≡ bytes
+  pub in-block : {at w : ℕ} {bytes : List ℕ} → at + w ≤ lengthOf v → Fills (lengthOf v) at w bytes (fields v s) → part around (length before + at) w ≡ bytes
   unfolding startBlock
   in-block {at} {w} h f =
       part-inside before (startBlock v s template) after at w (rw (length-patched template (fields v s)) (omega arith)) ∙ f .filled template long
@@ -357,7 +372,9 @@ module _ (v : Version) (s : Start) (template before after : List ℕ) (long : le
         let here = fills-text (lengthOf v) 701 id (id .len + 1) (omega (arith, short-id, array)) (omega arith) (omega (arith, short-id, long-enough v 0 on)) in
         fills-after (gameFields v s) (fills-after (seatsFields v 0 (s .seats)) (fills-after (modeFields v s)
         (fills-kept (reaches v matchFrom) on
-        (fills-before _ (λ i a b. (λ x y. omega (arith, short-id), (λ x y. omega (arith, short-id), tt))) (rw (ended id) at here)))))
+        (fills-before _ (λ i a b.
+        (apart-tail i (matchTailOf (s .«match_info» .tail)) (id .len) (λ x y. omega arith), (λ x y. omega (arith, short-id), (λ x y. omega (arith, short-id), tt))))
+        (rw (ended id) at here)))))
 
     pub match-id-read : readAt around (length before + 701) 51 ≡ text id
     match-id-read =

@@ -1,8 +1,9 @@
 -- The start block: a template with a start's fields stored over it.
 -- Assumes nothing.
-use Prim.Native.Nat.{ℕ, _+_, _*_}
+use Prim.Native.Nat.{ℕ, _+_, _*_, _-_}
 use mathlib.Core.List.{List, [], _∷_, _++_}
 use lib.Dec.{eqb}
+use lib.ListN.{replicate}
 use Rattle.wire.specs.Wire.{be, keep}
 use Rattle.format.specs.declared.version.Version.{Version}
 use Rattle.format.specs.Mark.{yes}
@@ -13,6 +14,9 @@ use Rattle.start.specs.Gate.{reaches, ucfFrom, tagFrom, palFrom, frozenF
 use Rattle.game.specs.declared.start.Text.{Text}
 use Rattle.game.specs.declared.start.Seat.{Seat}
 use Rattle.game.specs.declared.start.Match.{Match}
+use Rattle.game.specs.declared.start.MatchTail.{MatchTail}
+use Rattle.game.specs.declared.start.MatchTail.the-variants.{Cleared, Kept}
+use Rattle.game.specs.MatchTails.{matchTailOf}
 use Rattle.game.specs.declared.start.Start.{Start}
 
 -- ---- what the versions from a gate on write
@@ -93,12 +97,17 @@ modeFields v s =
     ++ (numberField v sceneFrom 419 1 (s .scene .major)
     ++ numberField v languageFrom 700 1 (s .language .value))))
 
--- the match id ends with one zero; the bytes after that stay
+-- the match id ends with one zero
 abbrev pub matchId : Text → Patch
 matchId id = patch 701 (text id ++ (0 ∷ []))
 
+-- the bytes after that, through 751: zeros, or what the template has there
+abbrev pub matchTail : MatchTail → ℕ → Patch
+matchTail Cleared len = patch (702 + len) (replicate (50 - len) 0)
+matchTail Kept len = patch (702 + len) []
+
 unfoldable pub matchFields : Version → Match → List Patch
-matchFields v m = from v matchFrom (matchId (m .id) ∷ patch 752 (be 4 (m .game)) ∷ patch 756 (be 4 (m .tiebreaker)) ∷ [])
+matchFields v m = from v matchFrom (matchId (m .id) ∷ matchTail (matchTailOf (m .tail)) (m .id .len) ∷ patch 752 (be 4 (m .game)) ∷ patch 756 (be 4 (m .tiebreaker)) ∷ [])
 
 unfoldable pub fields : Version → Start → List Patch
 fields v s = gameFields v s ++ (seatsFields v 0 (s .seats) ++ (modeFields v s ++ matchFields v (s .«match_info»)))

@@ -10,18 +10,20 @@ ghost use Rattle.start.specs.Length.{lengthOf};
 ghost use Rattle.start.specs.Refusal.{tooLong, holdsZero, badStart};
 ghost use Rattle.patch.specs.Field.{text, zeroInside, readAt};
 ghost use Rattle.patch.specs.Inner.{Patched};
-ghost use Rattle.start.specs.Block.{gameFields, modeFields, matchId, matchFields, fields, startBlock};
+ghost use Rattle.start.specs.Block.{gameFields, modeFields, matchId, matchTail, matchFields, fields, startBlock};
 use super::field::put_flag;
 use super::field::put_number;
 use super::gate::Gate;
 use super::seat::put_seats;
 use format::version::Version;
 use game::start::Match;
+use game::start::MatchTail;
 use game::start::Start;
 use game::start::Text;
 use patch::flag_of;
 use patch::put_filled;
 use patch::put_numbers;
+use patch::put_zeros;
 
 const GAME_OFFSETS: [usize; 11] = [0, 1, 2, 10, 12, 15, 16, 18, 20, 52, 316];
 
@@ -64,13 +66,26 @@ fn put_modes(block: &mut [u8], v: Version, s: Start)
     put_number(block, v, Gate::LANGUAGE, 700, 1, s.language.value as u32);
 }
 
-// The match id ends with one zero: the bytes after that stay. A viewer who reads its 51 bytes up to the first zero reads the id.
+// The match id ends with one zero. A viewer who reads its 51 bytes up to the first zero reads the id.
 fn put_match_id(block: &mut [u8], id: Text)
     requires { ⌜ (id .len ≤ 50) × (752 ≤ length (now block)) × (zeroInside id ≡ false) ⌝ }
     ensures { λ r. ⌜ Patched (now (block .entry)) (now (block .exit)) (matchId id ∷ []) × (readAt (now (block .exit)) 701 51 ≡ text id) ⌝ }
 {
     let ended = id.len + 1;
     put_filled(block, 701, ended, id);
+}
+
+// The bytes after that zero, through 751, for an id of so many bytes.
+fn put_match_tail(block: &mut [u8], len: usize, tail: MatchTail)
+    requires { ⌜ (len ≤ 50) × (752 ≤ length (now block)) ⌝ }
+    ensures { λ r. ⌜ Patched (now (block .entry)) (now (block .exit)) (matchTail tail len ∷ []) ⌝ }
+{
+    match tail {
+        MatchTail::Cleared => {
+            put_zeros(block, 702 + len, 50 - len);
+        }
+        MatchTail::Kept => {}
+    }
 }
 
 // The match.
@@ -80,6 +95,7 @@ fn put_match(block: &mut [u8], v: Version, m: Match)
 {
     if Gate::MATCH.reached(v) {
         put_match_id(block, m.id);
+        put_match_tail(block, m.id.len, MatchTail::of(m.tail));
         wire::put_u32(block, 752, m.game);
         wire::put_u32(block, 756, m.tiebreaker);
     }

@@ -1,7 +1,7 @@
 //! The worked cases that are accepted, by their numbers.
 
 use games::{adapt, columns, Case};
-use slp::{End, Optional, PortColumn, Rollbacks, Version};
+use slp::{End, MatchTail, Optional, PortColumn, Rollbacks, Version};
 
 use crate::{check, counts::Counts, original};
 
@@ -39,7 +39,7 @@ fn newest() -> Case {
 	case.game.frames.version = Version { major: 3, minor: 18, patch: 0 };
 	let start = &mut case.game.start;
 	(start.is_pal, start.is_frozen_ps, start.language) = (given(1), given(0), given(1));
-	(start.scene.given, start.match_info.given) = (1, 1);
+	(start.scene.given, start.match_info.given, start.match_info.tail) = (1, 1, MatchTail::Kept);
 	case
 }
 

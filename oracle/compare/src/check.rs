@@ -67,6 +67,7 @@ fn check_file(case: &Case, game: &Game, counts: &mut Counts) -> Option<String> {
 		.or_else(|| check_walk(&theirs))
 		.or_else(|| check_room(case, theirs.len()))
 		.or_else(|| check_runs(case, &theirs, counts.games))
+		.or_else(|| check_cleared(case, &theirs))
 }
 
 /// The room of the game's own counts is enough for the Rust's file.
@@ -105,6 +106,21 @@ fn check_runs(case: &Case, theirs: &[u8], number: usize) -> Option<String> {
 		_ if !kept(&out, end) || out[..place] != guarded(place) => Some("bytes outside our runs are touched".into()),
 		_ => None,
 	}
+}
+
+/// With the match id's tail cleared: the Rust's file but for that tail, which is zeros.
+fn check_cleared(case: &Case, theirs: &[u8]) -> Option<String> {
+	let mut case = case.clone();
+	case.game.start.match_info.tail = slp::MatchTail::Cleared;
+	let mut should = theirs.to_vec();
+	if case.version() >= (3, 14) {
+		let block = slp::first_place(theirs) + 1;
+		should[block + 702 + case.game.start.match_info.id.len..block + 752].fill(0);
+	}
+	let mut out = guarded(theirs.len() + 1);
+	let answer = slp::write(&case.game, &case.stores(), &mut out);
+	let same = answer == Ok(theirs.len()) && out[..theirs.len()] == should && kept(&out, theirs.len());
+	(!same).then(|| format!("with a cleared tail: {answer:?}, or another byte outside the tail"))
 }
 
 /// An output that is one byte short is refused and stays.

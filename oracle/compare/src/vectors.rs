@@ -198,6 +198,7 @@ fn start(to: &mut Layout, at: usize, s: &Start) {
 	}
 	let at = at + offset_of!(Start, match_info);
 	numbers!(to, at, s.match_info, Match, given, game, tiebreaker);
+	byte_fields!(to, at, Match, tail: [s.match_info.tail as u8]);
 	to.text(at + offset_of!(Match, id), &s.match_info.id);
 }
 

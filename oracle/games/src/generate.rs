@@ -2,7 +2,7 @@
 //! and texts that are no Shift-JIS (tags, names, connect codes) or no UTF-8 (user ids, match ids).
 
 use serde_json::{Map, Value};
-use slp::{Counts, End, Match, Netplay, Optional, PortColumn, Scene, Seat, Start, Team, Text, Ucf, Version};
+use slp::{Counts, End, Match, MatchTail, Netplay, Optional, PortColumn, Scene, Seat, Start, Team, Text, Ucf, Version};
 
 use crate::{columns, random::Random, Case};
 
@@ -170,6 +170,8 @@ pub fn start(r: &mut Random, version: (u8, u8)) -> Start {
 		language: Optional { given: given(r, version, (3, 12)), value: r.within(0..2) as u8 },
 		match_info: Match {
 			given: given(r, version, (3, 14)),
+			// the Rust keeps what the template has there
+			tail: MatchTail::Kept,
 			id: text(r, utf8, 50, version, (3, 14)),
 			game: r.cell(4),
 			tiebreaker: r.cell(4),

@@ -1,6 +1,6 @@
 //! Games of one shape, for the benchmark.
 
-use slp::{Counts, End, Optional, PortColumn, Scene, Version};
+use slp::{Counts, End, MatchTail, Optional, PortColumn, Scene, Version};
 
 use crate::{columns, random::Random, Case};
 
@@ -71,7 +71,7 @@ fn start(case: &mut Case) {
 	start.is_frozen_ps = Optional { given: 1, value: 0 };
 	start.scene = Scene { given: 1, minor: 2, major: 8 };
 	start.language = Optional { given: 1, value: 1 };
-	start.match_info.given = 1;
+	(start.match_info.given, start.match_info.tail) = (1, MatchTail::Kept);
 	for seat in start.seats.iter_mut() {
 		(seat.given, seat.ucf.given, seat.name_tag_given) = (1, 1, 1);
 		(seat.netplay.given, seat.netplay.suid_given) = (1, 1);

@@ -152,12 +152,23 @@ pub struct Scene {
 	pub major: u8,
 }
 
+/// The bytes of the start block after the zero that ends the match id, through 751: zeros, or what the template has there. Who saves a file again
+/// byte for byte keeps them.
+#[repr(u8)]
+#[derive(Clone, Copy, Debug, Default, PartialEq, Eq)]
+pub enum MatchTail {
+	#[default]
+	Cleared = 0,
+	Kept = 1,
+}
+
 /// The match that a game belongs to (from 3.14).
 #[repr(C)]
 #[derive(Clone, Copy, Debug, Default, PartialEq, Eq)]
 pub struct Match {
 	/// a mark
 	pub given: u8,
+	pub tail: MatchTail,
 	/// at most 50 bytes
 	pub id: Text,
 	pub game: u32,

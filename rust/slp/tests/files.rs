@@ -88,3 +88,18 @@ fn what_is_no_replay_is_refused() {
 	assert_eq!(slp::walk(&unknown), Err(Refused { number: 16, offset: first }));
 	assert_eq!(slp::step_at(&file, 0), Err(Refused { number: 17, offset: 0 }));
 }
+
+/// After the match id's zero stand zeros, or what the template has there.
+#[test]
+fn the_tail_of_a_match_id_is_cleared_or_kept() {
+	let mut made = Made::new();
+	made.block = vec![0xaa; 760];
+	made.game.start.match_info.id = slp::Text::new(b"id");
+	let cleared = made.write().unwrap();
+	made.game.start.match_info.tail = slp::MatchTail::Kept;
+	let kept = made.write().unwrap();
+	let (id, end) = (slp::first_place(&kept) + 1 + 701, slp::first_place(&kept) + 1 + 752);
+	assert_eq!(cleared[id..end], [&b"id"[..], &[0; 49]].concat());
+	assert_eq!(kept[id..end], [&b"id\0"[..], &[0xaa; 48]].concat());
+	assert_eq!((&cleared[..id], &cleared[end..]), (&kept[..id], &kept[end..]));
+}

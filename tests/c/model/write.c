@@ -171,6 +171,8 @@ static void set_later_fields(uint8_t *b, slp_version v, const slp_start *s)
 	if (reaches(v, 3, 14)) {
 		memcpy(b + 701, s->match_info.id.bytes, s->match_info.id.len);
 		b[701 + s->match_info.id.len] = 0;
+		if (s->match_info.tail == SLP_TAIL_CLEARED)
+			memset(b + 702 + s->match_info.id.len, 0, 50 - s->match_info.id.len);
 		set(b, 752, s->match_info.game, 4);
 		set(b, 756, s->match_info.tiebreaker, 4);
 	}

@@ -1,4 +1,4 @@
-/* The twelve numbers to hold, through the library. */
+/* The twelve numbers to hold, and worked tails of match ids, through the library. */
 #include <stdlib.h>
 #include <string.h>
 
@@ -181,6 +181,39 @@ static void case_12(void)
 	unmake(&m);
 }
 
+/* The 51 bytes of the match id, for an id of so many bytes in a block of 0xaa. */
+static void check_tail(uint8_t tail, size_t len)
+{
+	plan p = one_frame_plan();
+	made m = make_game(&p);
+	slp_match *match = &m.in.game.start.match_info;
+	memset(m.block, 0xaa, m.in.block.len);
+	memset(match->id.bytes, 'a', sizeof match->id.bytes);
+	match->id.len = len;
+	match->tail = tail;
+	memset(out, 0xee, sizeof out);
+	slp_written w = guarded_write(&m.in, out, sizeof out);
+	CHECK_EQ(w.refused, 0);
+	CHECK_EQ(w.len, 990);
+	const uint8_t *block = out + slp_first_place(out, w.len) + 1;
+	for (size_t i = 0; i < 51; i++)
+		CHECK_EQ(block[701 + i], i < len ? 'a' : i == len || tail == SLP_TAIL_CLEARED ? 0 : 0xaa);
+	CHECK_EQ(block[700], m.in.game.start.language.value);
+	CHECK_EQ(block[752], match->game >> 24);
+	unmake(&m);
+}
+
+static void tails(void)
+{
+	static const size_t lens[] = { 0, 1, 2, 25, 48, 49, 50 };
+	for (size_t i = 0; i < sizeof lens / sizeof *lens; i++) {
+		check_tail(SLP_TAIL_CLEARED, lens[i]);
+		check_tail(SLP_TAIL_KEPT, lens[i]);
+		check_tail(2, lens[i]);
+		check_tail(255, lens[i]);
+	}
+}
+
 int main(int argc, char **argv)
 {
 	begin("cases", argc, argv);
@@ -197,5 +230,6 @@ int main(int argc, char **argv)
 	test("case 11", case_11);
 	test("case 12", case_12);
 	test("case 1, unfilled", unfilled);
+	test("match id tails", tails);
 	return finish();
 }

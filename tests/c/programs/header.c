@@ -19,6 +19,7 @@ _Static_assert(sizeof(slp_frames) == 152 && offsetof(slp_frames, counts) == 8 &&
 _Static_assert(sizeof(slp_text) == 64 && offsetof(slp_text, len) == 56, "slp_text");
 _Static_assert(sizeof(slp_ucf) == 12 && sizeof(slp_netplay) == 208 && sizeof(slp_seat) == 320, "slp_seat");
 _Static_assert(offsetof(slp_seat, name_tag) == 48 && offsetof(slp_seat, netplay) == 112, "slp_seat");
+_Static_assert(offsetof(slp_match, tail) == 1 && offsetof(slp_match, id) == 8 && SLP_TAIL_CLEARED == 0 && SLP_TAIL_KEPT == 1, "slp_match");
 _Static_assert(sizeof(slp_match) == 80 && sizeof(slp_start) == 1408 && offsetof(slp_start, seats) == 32, "slp_start");
 _Static_assert(sizeof(slp_end) == 11, "slp_end");
 _Static_assert(sizeof(slp_game) == 1584 && offsetof(slp_game, start) == 152 && offsetof(slp_game, end) == 1560 &&

@@ -169,6 +169,7 @@ static void make_start(slp_start *s, int seats)
 	s->scene = (slp_scene){ yes(), (uint8_t)draw(), (uint8_t)draw() };
 	s->language = (slp_optional){ yes(), (uint8_t)draw() };
 	s->match_info.given = yes();
+	s->match_info.tail = below(2) ? yes() : SLP_TAIL_CLEARED;
 	make_text(&s->match_info.id, 50);
 	s->match_info.game = (uint32_t)draw();
 	s->match_info.tiebreaker = (uint32_t)draw();
