@@ -24,7 +24,7 @@ static slp_stores stores;
 static slp_bytes block, codes, metadata;
 static uint8_t out[1 << 20], file[1 << 20], mask[FRAMES], scratch[FRAMES], zeros[65536];
 static size_t file_len;
-static uint32_t cells[MOST_CELLS], ids[FRAMES], offsets[FRAMES + 1];
+static uint32_t cells[MOST_CELLS], ids[FRAMES], offsets[FRAMES + 1], rows[FRAMES * (SLP_POST_COLUMNS + 1)];
 
 static void smallest(void)
 {
@@ -34,9 +34,9 @@ static void smallest(void)
 	codes = metadata = (slp_bytes){ zeros, 0 };
 }
 
-static slp_cells store(uint8_t family, size_t rows)
+static slp_cells store(uint8_t family, size_t n)
 {
-	return (slp_cells){ cells, slp_columns(game.frames.version, family) * rows };
+	return (slp_cells){ cells, slp_columns(game.frames.version, family) * n };
 }
 
 /* Everything is given, eight players, an item and a row of each stage family a frame, and the longest start block. */
@@ -90,6 +90,9 @@ static void call_item_row(void) { kept = 1u + slp_item_row(game.frames, SLP_STOR
 static void call_fod_platform_row(void) { kept = 1u + slp_fod_platform_row(game.frames, SLP_STORES(&stores), 0).row.platform; }
 static void call_dreamland_whispy_row(void) { kept = 1u + slp_dreamland_whispy_row(game.frames, SLP_STORES(&stores), 0).row.direction; }
 static void call_stadium_row(void) { kept = 1u + slp_stadium_transformation_row(game.frames, SLP_STORES(&stores), 0).row.type_id; }
+static void call_rows(void) { kept = 1u + slp_rows(rows, sizeof rows / 4, game.frames, SLP_STORES(&stores), SLP_FAMILY_POST, 0, 0, game.frames.counts.frames).len; }
+static void call_pre_of(void) { kept = 1u + slp_pre_of(cells, SLP_PRE_COLUMNS, game.frames.version, 1).state; }
+static void call_post_of(void) { kept = 1u + slp_post_of(cells, SLP_POST_COLUMNS, game.frames.version, 1).state; }
 static void call_columns(void) { kept = 1u + slp_columns(game.frames.version, SLP_FAMILY_POST); }
 static void call_room(void) { kept = slp_room(slp_plan_of(&game, block.len, codes.len, metadata.len)).bytes; }
 static void call_first_place(void) { kept = slp_first_place(file, file_len); }
@@ -106,13 +109,16 @@ static const struct {
 	{ "slp_walk", call_walk, 2800 },
 	{ "slp_step_at", call_step_at, 2800 },
 	{ "slp_rollbacks", call_rollbacks, 256 },
-	{ "slp_frame_row", call_frame_row, 11400 },
+	{ "slp_frame_row", call_frame_row, 10900 },
 	{ "slp_pre_row", call_pre_row, 3500 },
 	{ "slp_post_row", call_post_row, 3500 },
-	{ "slp_item_row", call_item_row, 3400 },
-	{ "slp_fod_platform_row", call_fod_platform_row, 3400 },
-	{ "slp_dreamland_whispy_row", call_dreamland_whispy_row, 3400 },
-	{ "slp_stadium_transformation_row", call_stadium_row, 3400 },
+	{ "slp_item_row", call_item_row, 3200 },
+	{ "slp_fod_platform_row", call_fod_platform_row, 3000 },
+	{ "slp_dreamland_whispy_row", call_dreamland_whispy_row, 3000 },
+	{ "slp_stadium_transformation_row", call_stadium_row, 3000 },
+	{ "slp_rows", call_rows, 2800 },
+	{ "slp_pre_of", call_pre_of, 1400 },
+	{ "slp_post_of", call_post_of, 1400 },
 	{ "slp_columns", call_columns, 800 },
 	{ "slp_first_place", call_first_place, 256 },
 	{ "slp_room", call_room, 1500 },

@@ -51,7 +51,8 @@ enum {
 	/* output, mask or scratch too short; run of frames: also a place beyond the output */
 	SLP_SHORT_OUTPUT = 12,
 	/* mask: an id below -123 or above 1,048,452; row: an index not below frames or, for a family's own row, its rows; or a slot that is
-	 * not there; run of frames: a range that is reversed or ends beyond the frames */
+	 * not there; run of frames: a range that is reversed or ends beyond the frames; rows of a run: no such family or slot, or a range that is reversed
+	 * or goes past the rows */
 	SLP_OUT_OF_RANGE = 13,
 	/* reader, offset 0: under 15 bytes or wrong signature */
 	SLP_NOT_A_REPLAY = 14,
@@ -566,7 +567,7 @@ slp_appended slp_write_frame(uint8_t *out, size_t out_len, size_t place, slp_fra
  * One record of a game as a struct with named fields. Fields that the version lacks are 0. `bits` has the record's cells as they are, in the order
  * of its columns: a float field is the float of its cell, and all patterns of a NaN are one NaN there, so look into `bits` for the pattern.
  * A player's row says whether the player is in the frame: `present` is 1 or 0 by the presence bit. The values of an absent player are those that the
- * stores have for it. Each call judges all stores, as slp_write does, and then reads one record. */
+ * stores have for it. Each call judges all stores, as slp_write does, and then reads one record: for many rows there is slp_rows. */
 
 typedef struct {
 	float x, y;
@@ -762,6 +763,42 @@ slp_item_answer slp_item_row(slp_frames frames, SLP_STORE_PARAMETERS, size_t ind
 slp_fod_platform_answer slp_fod_platform_row(slp_frames frames, SLP_STORE_PARAMETERS, size_t index);
 slp_dreamland_whispy_answer slp_dreamland_whispy_row(slp_frames frames, SLP_STORE_PARAMETERS, size_t index);
 slp_stadium_transformation_answer slp_stadium_transformation_row(slp_frames frames, SLP_STORE_PARAMETERS, size_t index);
+
+/* ---- many rows, judged once */
+
+typedef struct {
+	uint8_t refused;   /* 0, or 1 to 7, 12, 13 */
+	size_t len;        /* how many cells were put; 0 on a refusal */
+} slp_run;
+
+/* How many cells a row has in slp_rows: one a column, and for a player's row one more, its mark. */
+static inline size_t slp_row_cells(slp_version version, uint8_t family)
+{
+	return slp_columns(version, family) + (family == SLP_FAMILY_PRE || family == SLP_FAMILY_POST);
+}
+
+/* Rows `from` up to `to` (which is not among them) of a family and slot, row after row, at the start of `out`; cells past them stay. A row is its
+ * cells in the order of the columns, and for Pre and Post the mark behind them: 1 where the player is in the frame, else 0. Families without
+ * players have slot 0. All stores are judged, once, so that the time is that of the judge and of the cells. `out` overlaps no other slice.
+ *
+ *     size_t cells = slp_row_cells(game.frames.version, SLP_FAMILY_POST), columns = cells - 1;
+ *     slp_run run = slp_rows(out, out_len, game.frames, SLP_STORES(&stores), SLP_FAMILY_POST, 0, 0, game.frames.counts.frames);
+ *     for (const uint32_t *row = out; row < out + run.len; row += cells)
+ *         show(slp_post_of(row, columns, game.frames.version, row[columns]));
+ */
+slp_run slp_rows(uint32_t *out, size_t out_len, slp_frames frames, SLP_STORE_PARAMETERS, uint8_t family, size_t slot, size_t from, size_t to);
+
+/* A row of cells, whatever they are: nothing is judged or refused. Missing cells are 0, cells past the version's columns are not looked at, and of a
+ * cell over its column's width the low bytes count. `present` is a mark. Of a game that slp_rows takes, the row of its cells is the one that the
+ * calls above give; FrameStart's and FrameEnd's are those in the frame's row. */
+slp_pre slp_pre_of(const uint32_t *cells, size_t cells_len, slp_version version, uint32_t present);
+slp_post slp_post_of(const uint32_t *cells, size_t cells_len, slp_version version, uint32_t present);
+slp_item slp_item_of(const uint32_t *cells, size_t cells_len, slp_version version);
+slp_frame_start slp_frame_start_of(const uint32_t *cells, size_t cells_len, slp_version version);
+slp_frame_end slp_frame_end_of(const uint32_t *cells, size_t cells_len, slp_version version);
+slp_fod_platform slp_fod_platform_of(const uint32_t *cells, size_t cells_len, slp_version version);
+slp_dreamland_whispy slp_dreamland_whispy_of(const uint32_t *cells, size_t cells_len, slp_version version);
+slp_stadium_transformation slp_stadium_transformation_of(const uint32_t *cells, size_t cells_len, slp_version version);
 
 #ifdef __cplusplus
 }

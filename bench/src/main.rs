@@ -2,8 +2,10 @@
 //!
 //!     bench            nanoseconds, the best of many runs
 //!     bench count      instructions, under valgrind (callgrind): steady on any machine
+//!     bench rows       the same of rows: from 5,000 to 160,000 frames; and `bench rows count`
 //!     bench once WHAT GAME REPEATS    what `count` runs
 
+mod rows;
 mod scattered;
 mod work;
 
@@ -18,9 +20,11 @@ fn main() {
 	match words[..] {
 		[] => times(),
 		["count"] => counts(),
+		["rows"] => row_times(),
+		["rows", "count"] => row_counts(),
 		["once", what, game, repeats] => once(what, number(game), number(repeats)),
 		_ => {
-			eprintln!("usage: bench [count]");
+			eprintln!("usage: bench [rows] [count]");
 			std::process::exit(2)
 		}
 	}
@@ -104,6 +108,32 @@ fn collected(what: &str, game: usize, repeats: usize) -> u64 {
 }
 
 fn once(what: &str, game: usize, repeats: usize) {
-	let mut work = Work::new(SHAPES[game]);
-	(0..repeats).for_each(|_| work.run(what));
+	if rows::WHAT.contains(&what) {
+		let mut work = rows::Rows::new(rows::SHAPES[game]);
+		(0..repeats).for_each(|_| work.run(what));
+	} else {
+		let mut work = Work::new(SHAPES[game]);
+		(0..repeats).for_each(|_| work.run(what));
+	}
+}
+
+fn row_times() {
+	for &shape in rows::SHAPES {
+		let mut work = rows::Rows::new(shape);
+		println!("\n{}: all Pre and Post rows of two players at 3.18", shape.name);
+		for what in rows::WHAT {
+			let least = best(|| work.run(what));
+			println!("{what:<34} {:>12.2} ms {:>12.2} ns a frame", least / 1e6, least / shape.frames as f64);
+		}
+	}
+}
+
+fn row_counts() {
+	for (i, &shape) in rows::SHAPES.iter().enumerate() {
+		println!("\n{}: all Pre and Post rows of two players at 3.18", shape.name);
+		for what in rows::WHAT {
+			let each = (collected(what, i, 3) - collected(what, i, 1)) / 2;
+			println!("{what:<34} {each:>14} instructions {:>12.1} a frame", each as f64 / shape.frames as f64);
+		}
+	}
 }

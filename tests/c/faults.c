@@ -18,6 +18,8 @@ slp_appended real_slp_write_frames(uint8_t *out, size_t out_len, size_t place, s
 slp_appended real_slp_write_frame(uint8_t *out, size_t out_len, size_t place, slp_frames frames, SLP_STORE_PARAMETERS, size_t i);
 slp_frame_answer real_slp_frame_row(slp_frames frames, SLP_STORE_PARAMETERS, size_t index);
 slp_post_answer real_slp_post_row(slp_frames frames, SLP_STORE_PARAMETERS, size_t slot, size_t index);
+slp_run real_slp_rows(uint32_t *out, size_t out_len, slp_frames frames, SLP_STORE_PARAMETERS, uint8_t family, size_t slot, size_t from, size_t to);
+slp_pre real_slp_pre_of(const uint32_t *cells, size_t cells_len, slp_version version, uint32_t present);
 
 /* The parameters of the stores, handed on. */
 #define STORES \
@@ -336,4 +338,30 @@ slp_reserved slp_room(slp_plan plan)
 	if (faulty("room-wraps"))
 		r.bytes %= 1u << 30;
 	return r;
+}
+
+slp_run slp_rows(uint32_t *out, size_t out_len, slp_frames frames, SLP_STORE_PARAMETERS, uint8_t family, size_t slot, size_t from, size_t to)
+{
+	if (faulty("rows-slot") && slot > 0)
+		slot--;
+	slp_run r = real_slp_rows(out, out_len, frames, STORES, family, slot, from, to);
+	if (faulty("rows-mark") && family == SLP_FAMILY_PRE && r.len)
+		out[r.len - 1] = 1;
+	if (faulty("rows-past") && r.len < out_len)
+		out[r.len] ^= 1;
+	if (faulty("rows-refused") && r.refused == 12 && out_len)
+		out[0] = 0;
+	if (faulty("rows-reversed") && from > to)
+		r.refused = 0;
+	return r;
+}
+
+slp_pre slp_pre_of(const uint32_t *cells, size_t cells_len, slp_version version, uint32_t present)
+{
+	slp_pre row = real_slp_pre_of(cells, cells_len, version, present);
+	if (faulty("of-wide") && cells_len > SLP_PRE_STATE)
+		row.bits[SLP_PRE_STATE] = cells[SLP_PRE_STATE];
+	if (faulty("of-mark"))
+		row.present = (uint8_t)present;
+	return row;
 }

@@ -96,6 +96,21 @@ static void show_items(slp_game game, slp_stores stores, slp_frame frame)
 		use(slp_item_row(game.frames, SLP_STORES(&stores), frame.items.first + i).row);
 }
 
+static void show(slp_post post)
+{
+	printf("present %u, %.1f percent\n", post.present, post.percent);
+}
+
+static void show_run(slp_game game, slp_stores stores)
+{
+	uint32_t out[SLP_POST_COLUMNS + 1];
+	size_t out_len = SLP_POST_COLUMNS + 1;
+	size_t cells = slp_row_cells(game.frames.version, SLP_FAMILY_POST), columns = cells - 1;
+	slp_run run = slp_rows(out, out_len, game.frames, SLP_STORES(&stores), SLP_FAMILY_POST, 0, 0, game.frames.counts.frames);
+	for (const uint32_t *row = out; row < out + run.len; row += cells)
+		show(slp_post_of(row, columns, game.frames.version, row[columns]));
+}
+
 static size_t post_cells(slp_game game)
 {
 	size_t cells = slp_columns(game.frames.version, SLP_FAMILY_POST) * game.frames.counts.frames;    // of one slot
@@ -118,6 +133,7 @@ static void show_rows(void)
 	show_frame(game, stores);
 	show_post(game, stores);
 	show_items(game, stores, slp_frame_row(game.frames, SLP_STORES(&stores), 0).row);
+	show_run(game, stores);
 }
 
 int main(void)

@@ -26,7 +26,7 @@ none-of : (v : Version) (c : Column) (ds : List Column) → has v c ≡ false �
 none-of v c ds p t = ap length (none v c ds p t)
 
 -- the columns that a version has are before one that it lacks
-before-lacking : (v : Version) (cs : List Column) → T (ascending cs) → (k : ℕ) → k < length cs → has v (getD cs k (col 0 0 0)) ≡ false → length (since v cs) ≤ k
+pub before-lacking : (v : Version) (cs : List Column) → T (ascending cs) → (k : ℕ) → k < length cs → has v (getD cs k (col 0 0 0)) ≡ false → length (since v cs) ≤ k
 unfolding chosen
 before-lacking v [] t k h e = absurd (omega arith)
 before-lacking v (c ∷ cs) t zero h e = rw e (omega (arith, none-of v c cs e (both-left (follow c cs) (ascending cs) t)))
@@ -38,7 +38,7 @@ before-lacking v (c ∷ cs) t (suc k) h e =
     go false q l = rw q (omega arith)
 
 -- and one that it has is among them
-before-had : (v : Version) (cs : List Column) → T (ascending cs) → (k : ℕ) → k < length cs → has v (getD cs k (col 0 0 0)) ≡ true → k < length (since v cs)
+pub before-had : (v : Version) (cs : List Column) → T (ascending cs) → (k : ℕ) → k < length cs → has v (getD cs k (col 0 0 0)) ≡ true → k < length (since v cs)
 unfolding chosen
 before-had v [] t k h e = absurd (omega arith)
 before-had v (c ∷ cs) t zero h e = rw e (omega arith)

@@ -119,7 +119,7 @@ pow-positive zero = omega arith
 pow-positive (suc k) = rw pow-suc (omega (arith, pow-positive k))
 
 -- a version's columns are the first of its family's, so their widths are its first widths
-width-first : (family : Family) (v : Version) (k : ℕ) → k < length (widthsOf family v) → getD (widthsOf family v) k 0 ≡ widthAt family k
+pub width-first : (family : Family) (v : Version) (k : ℕ) → k < length (widthsOf family v) → getD (widthsOf family v) k 0 ≡ widthAt family k
 unfolding widthAt
 width-first family v k h =
     ap (λ (ws : List ℕ). getD ws k 0) (prefix-of family v)

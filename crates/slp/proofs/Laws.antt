@@ -1,16 +1,14 @@
 -- From the calls of the crates below to the exported ones.
 -- Assumes nothing.
-use Prim.Native.Nat.{ℕ, zero, suc, _≤_, _<_}
-use native.Mathlib.Omega.{arith}
+use Prim.Native.Nat.{ℕ, _≤_, _<_}
 use borrow.Author.Tests.{lt-ltb, le-ltb}
-use mathlib.Core.Path.{_≡_, refl, sym, ap, _∙_}
+use mathlib.Core.Path.{_≡_, sym, ap, _∙_}
 use mathlib.Core.List.{List}
 use mathlib.Core.Bool.{Bool, cond}
-use lib.ListN.{length, getD}
+use lib.ListN.{length}
 use Rattle.format.specs.declared.version.Version.{Version}
 use Rattle.layout.specs.Columns.{widthsOf}
 use Rattle.layout.specs.declared.columns.Family.{Family}
-use Rattle.layout.specs.declared.columns.Family.the-variants.{StadiumTransformation}
 use Rattle.de.specs.declared.Walked.{Walked}
 use Rattle.de.specs.declared.Walked.the-variants.{Done}
 use Rattle.slp.specs.declared.answers.SlpWalked.{SlpWalked}
@@ -18,11 +16,12 @@ use Rattle.rollback.specs.Mask as rollback
 use Rattle.rollback.specs.declared.frame.Rollbacks.{Rollbacks}
 use Rattle.rollback.specs.declared.frame.Masked.{Masked}
 use Rattle.rollback.proofs.Only.{same-answer}
-use Rattle.game.specs.Stores.{Lent, Stores, families}
+use Rattle.game.specs.Stores.{Lent, Stores}
 use Rattle.game.specs.declared.frames.Frames.{Frames}
 use Rattle.append.specs.Run as append
 use Rattle.append.specs.declared.appended.Appended.{Appended}
 use Rattle.slp.specs.declared.answers.SlpAppended.{SlpAppended}
+use Rattle.run_rows.specs.Run.{familyOf}
 use Rattle.ser.specs.Write as write
 use Rattle.game.specs.declared.Game.{Game}
 use Rattle.ser.specs.declared.written.Written.{Written}
@@ -54,20 +53,9 @@ pub walk-done : {events stray place mark : ℕ} {whole : Bool} {w : Walked} →
     _≡_ {A = SlpWalked} (record { refused = 0; whole = mark; offset = 0; events = events; stray = stray; place = place }) (walked w)
 walk-done {events} {stray} {place} m e = ap (λ n. record { refused = 0; whole = n; offset = 0; events = events; stray = stray; place = place }) m ∙ sym (ap walked e)
 
--- ---- families by the number of their store: where it is none of the first seven
-pub last-family : (n : ℕ) → (n ≡ 0 → ⊥) × (n ≡ 1 → ⊥) × (n ≡ 2 → ⊥) × (n ≡ 3 → ⊥) × (n ≡ 4 → ⊥) × (n ≡ 5 → ⊥) × (n ≡ 6 → ⊥) → StadiumTransformation ≡ getD families n StadiumTransformation
-last-family zero h = absurd (h .0 refl)
-last-family (suc zero) h = absurd (h .1 refl)
-last-family (suc (suc zero)) h = absurd (h .2 refl)
-last-family (suc (suc (suc zero))) h = absurd (h .3 refl)
-last-family (suc (suc (suc (suc zero)))) h = absurd (h .4 refl)
-last-family (suc (suc (suc (suc (suc zero))))) h = absurd (h .5 refl)
-last-family (suc (suc (suc (suc (suc (suc zero)))))) h = absurd (h .6 refl)
-last-family (suc (suc (suc (suc (suc (suc (suc zero))))))) h = refl
-last-family (suc (suc (suc (suc (suc (suc (suc (suc n)))))))) h = refl
-
+-- ---- families by the number of their store
 pub no-columns : (v : Version) (n : ℕ) → 7 < n → 0 ≡ storeColumns v n
 no-columns v n h = rw (lt-ltb 7 n h)
 
-pub some-columns : (v : Version) (n k : ℕ) (family : Family) → n ≤ 7 → family ≡ getD families n StadiumTransformation → k ≡ length (widthsOf family v) → k ≡ storeColumns v n
+pub some-columns : (v : Version) (n k : ℕ) (family : Family) → n ≤ 7 → family ≡ familyOf n → k ≡ length (widthsOf family v) → k ≡ storeColumns v n
 some-columns v n k family h f e = rw (le-ltb 7 n h, ← f) e

@@ -3,11 +3,10 @@
 use Prim.Native.Nat.{ℕ}
 use mathlib.Core.Bool.{cond}
 use lib.Dec.{ltb}
-use lib.ListN.{length, getD}
+use lib.ListN.{length}
 use Rattle.format.specs.declared.version.Version.{Version}
 use Rattle.layout.specs.Columns.{widthsOf}
-use Rattle.layout.specs.declared.columns.Family.the-variants.{StadiumTransformation}
-use Rattle.game.specs.Stores.{families}
+use Rattle.run_rows.specs.Run.{familyOf}
 use Rattle.head.specs.Numbers.{StepNumbers, stepNumbers}
 use Rattle.de.specs.Numbers.{WalkNumbers, walkNumbers}
 use Rattle.head.specs.declared.Step.{Step}
@@ -47,4 +46,4 @@ appendedAs w = appendedStruct (appendedNumbers w)
 
 -- how many columns a family's store has; the families are numbered by their stores
 abbrev pub storeColumns : Version → ℕ → ℕ
-storeColumns v family = cond (ltb 7 family) 0 (length (widthsOf (getD families family StadiumTransformation) v))
+storeColumns v family = cond (ltb 7 family) 0 (length (widthsOf (familyOf family) v))

@@ -6,4 +6,5 @@ pub mod frame_rows;
 pub mod mask;
 pub mod reader;
 pub mod reserve;
+pub mod runs;
 pub mod writer;

@@ -6,7 +6,7 @@ use peppi::{frame::Rollbacks, game::immutable::Game};
 use crate::{
 	counts::Counts,
 	original::{self, run},
-	rows,
+	rows, runs,
 };
 
 /// A buffer whose every byte is known before a call.
@@ -24,12 +24,12 @@ fn kept(buffer: &[u8], from: usize) -> bool {
 
 /// Compares everything of one game; says the first difference of each kind.
 pub fn check(case: &Case, counts: &mut Counts) -> Vec<String> {
-	check_kinds(case, counts, &[check_file, check_masks, rows::check])
+	check_kinds(case, counts, &[check_file, check_masks, rows::check, runs::check])
 }
 
-/// Without rows: each row judges the whole game anew, which takes long in a large one, or in many.
+/// Without the single calls for rows: each of them judges the whole game anew, which takes long in a large one, or in many. All rows by runs.
 pub fn check_writing(case: &Case, counts: &mut Counts) -> Vec<String> {
-	check_kinds(case, counts, &[check_file, check_masks])
+	check_kinds(case, counts, &[check_file, check_masks, runs::check])
 }
 
 type Kind = fn(&Case, &Game, &mut Counts) -> Option<String>;

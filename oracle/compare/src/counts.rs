@@ -9,5 +9,6 @@ pub struct Counts {
 	pub masks: usize,
 	pub refused_masks: usize,
 	pub rows: usize,
+	pub run_rows: usize,
 	pub differences: usize,
 }

@@ -13,6 +13,7 @@ mod counts;
 mod original;
 mod refusals;
 mod rows;
+mod runs;
 mod values;
 mod vectors;
 mod wrong;
@@ -98,8 +99,8 @@ fn first(count: usize, seed: u64) -> Result<(), String> {
 
 fn summary(c: &Counts) -> Result<(), String> {
 	println!(
-		"{} games: {} files ({} bytes), {} masks ({} refused), {} rows, {} differences",
-		c.games, c.files, c.bytes, c.masks, c.refused_masks, c.rows, c.differences
+		"{} games: {} files ({} bytes), {} masks ({} refused), {} rows, {} rows of runs, {} differences",
+		c.games, c.files, c.bytes, c.masks, c.refused_masks, c.rows, c.run_rows, c.differences
 	);
 	match c.differences {
 		0 => Ok(()),

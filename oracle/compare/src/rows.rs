@@ -50,7 +50,7 @@ record!(ours::DreamlandWhispy, |r| [n(r.direction)]);
 record!(ours::StadiumTransformation, |r| [n(r.event), n(r.type_id)]);
 
 /// What our rows carry beside their fields.
-trait Row: Values {
+pub trait Row: Values {
 	fn carried(&self) -> (slp::Version, [u32; 32]);
 }
 
@@ -74,7 +74,7 @@ rows!(
 );
 
 /// Our row against the Rust's: its fields, its version, and its cells, which are the Rust's values bit for bit.
-fn same(case: &Case, what: &str, ours: &impl Row, theirs: &impl Values) -> Option<String> {
+pub fn same(case: &Case, what: &str, ours: &impl Row, theirs: &impl Values) -> Option<String> {
 	let (mine, other) = (ours.values(), theirs.values());
 	let (version, bits) = ours.carried();
 	let mut cells = [0; 32];
@@ -135,7 +135,7 @@ fn check_port(case: &Case, row: &ours::PortData, theirs: Option<&transpose::Port
 }
 
 /// Whether a player is in a frame, as the Rust's writer asks it: 1 or 0.
-fn mark(data: &immutable::Data, index: usize) -> u8 {
+pub fn mark(data: &immutable::Data, index: usize) -> u8 {
 	u8::from(data.validity.as_ref().map_or(true, |bits| bits.get_bit(index)))
 }
 

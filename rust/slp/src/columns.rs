@@ -26,6 +26,11 @@ impl Family {
 		// SAFETY: the call takes every number and touches no memory of ours.
 		unsafe { raw::slp_columns(version, self as u8) }
 	}
+
+	/// How many cells a row has in [`crate::rows::run`]: one a column, and for a player's row one more, its mark.
+	pub fn row_cells(self, version: Version) -> usize {
+		self.columns(version) + usize::from(matches!(self, Family::Pre | Family::Post))
+	}
 }
 
 /// Numbers from 0 on, and how many there are in the newest version.

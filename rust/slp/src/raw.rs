@@ -55,6 +55,22 @@ pub struct Answer<T> {
 extern "C" {
 	pub fn slp_columns(version: Version, family: u8) -> usize;
 
+	pub fn slp_pre_of(cells: *const u32, cells_len: usize, version: Version, present: u32) -> records::Pre;
+
+	pub fn slp_post_of(cells: *const u32, cells_len: usize, version: Version, present: u32) -> records::Post;
+
+	pub fn slp_item_of(cells: *const u32, cells_len: usize, version: Version) -> records::Item;
+
+	pub fn slp_frame_start_of(cells: *const u32, cells_len: usize, version: Version) -> records::FrameStart;
+
+	pub fn slp_frame_end_of(cells: *const u32, cells_len: usize, version: Version) -> records::FrameEnd;
+
+	pub fn slp_fod_platform_of(cells: *const u32, cells_len: usize, version: Version) -> records::FodPlatform;
+
+	pub fn slp_dreamland_whispy_of(cells: *const u32, cells_len: usize, version: Version) -> records::DreamlandWhispy;
+
+	pub fn slp_stadium_transformation_of(cells: *const u32, cells_len: usize, version: Version) -> records::StadiumTransformation;
+
 	pub fn slp_first_place(file: *const u8, file_len: usize) -> usize;
 
 	pub fn slp_step_at(file: *const u8, file_len: usize, place: usize) -> Step;
@@ -126,6 +142,7 @@ calls! {
 	fn slp_fod_platform_row(frames: Frames; index: usize) -> Answer<records::FodPlatform>;
 	fn slp_dreamland_whispy_row(frames: Frames; index: usize) -> Answer<records::DreamlandWhispy>;
 	fn slp_stadium_transformation_row(frames: Frames; index: usize) -> Answer<records::StadiumTransformation>;
+	fn slp_rows(out: *mut u32, out_len: usize, frames: Frames; family: u8, slot: usize, from: usize, to: usize) -> Written;
 }
 
 /// A call of these, with each store as pointer and length.

@@ -2,6 +2,7 @@
 #ifndef MODEL_H
 #define MODEL_H
 
+#include "columns.h"
 #include "flat.h"
 
 typedef struct {
@@ -40,6 +41,11 @@ unsigned model_rollbacks(const uint32_t *ids, size_t n, uint8_t keep, size_t mas
 values model_row(const input *in, row_kind kind, size_t slot, size_t index);
 /* Refusals 1 to 7 and 13 of a row, or 0. */
 unsigned model_row_refusal(const input *in, row_kind kind, size_t slot, size_t index);
+/* Refusals 1 to 7, 13 and 12 of a run of rows into so many cells, or 0; the cells of row `index`, of which there are *cells. */
+unsigned model_rows_refusal(const input *in, uint8_t number, size_t slot, size_t from, size_t to, size_t room);
+void model_run_row(const input *in, uint8_t number, size_t slot, size_t index, uint32_t row[MOST_COLUMNS + 1], size_t *cells);
+/* The cells that a row has when it is made of these: `bits`. */
+void model_given(uint8_t number, slp_version version, const uint32_t *cells, size_t len, uint32_t bits[32]);
 /* How many rows a call can be asked for. */
 size_t row_count(const slp_frames *f, row_kind kind);
 

@@ -119,3 +119,49 @@ unsigned model_row_refusal(const input *in, row_kind kind, size_t slot, size_t i
 		return 13;
 	return (kind == PRE_ROW || kind == POST_ROW) && slot >= slots_of(&in->game.frames) ? 13 : 0;
 }
+
+/* ---- rows of a run */
+
+/* The families by the numbers of the header, and the row calls that have them; a frame's start and end are in the frame's row. */
+static const family BY_NUMBER[8] = { FRAME_START, PRE, POST, FRAME_END, ITEM, FOD, WHISPY, STADIUM };
+static const row_kind ROWS_BY_NUMBER[8] = { FRAME_ROW, PRE_ROW, POST_ROW, FRAME_ROW, ITEM_ROW, FOD_ROW, WHISPY_ROW, STADIUM_ROW };
+
+static int of_players(uint8_t number)
+{
+	return number == SLP_FAMILY_PRE || number == SLP_FAMILY_POST;
+}
+
+unsigned model_rows_refusal(const input *in, uint8_t number, size_t slot, size_t from, size_t to, size_t room)
+{
+	input frames = *in;
+	frames.game.codes_given = frames.game.metadata_given = 0;
+	const slp_frames *f = &in->game.frames;
+	unsigned n = model_refusal(&frames);
+	if (n >= 1 && n <= 7)
+		return n;
+	if (number > 7 || slot >= (of_players(number) ? slots_of(f) : 1) || from > to || to > row_count(f, ROWS_BY_NUMBER[number]))
+		return 13;
+	size_t cells = columns_of(BY_NUMBER[number], f->version) + (size_t)of_players(number);
+	return room < (to - from) * cells ? 12 : 0;
+}
+
+void model_run_row(const input *in, uint8_t number, size_t slot, size_t index, uint32_t row[MOST_COLUMNS + 1], size_t *cells)
+{
+	const slp_frames *f = &in->game.frames;
+	const slp_stores *s = &in->stores;
+	const slp_cells stores[8] = { s->starts, s->pres, s->posts, s->ends, s->items, s->fods, s->whispys, s->stadiums };
+	size_t columns = columns_of(BY_NUMBER[number], f->version), rows = row_count(f, ROWS_BY_NUMBER[number]);
+	for (size_t c = 0; c < columns; c++)
+		row[c] = stores[number].p[(slot * columns + c) * rows + index];
+	*cells = columns;
+	if (of_players(number))
+		row[(*cells)++] = present(in, slot, index);
+}
+
+void model_given(uint8_t number, slp_version version, const uint32_t *cells, size_t len, uint32_t bits[32])
+{
+	uint8_t widths[MOST_COLUMNS];
+	size_t columns = widths_of(BY_NUMBER[number], version, widths);
+	for (size_t c = 0; c < 32; c++)
+		bits[c] = c < columns && c < len ? cells[c] & most(widths[c]) : 0;
+}

@@ -124,6 +124,39 @@ static void item(flat *f, const slp_item *p, slp_version v)
 	record(f, p->version, v, p->bits, 16);
 }
 
+static void fod(flat *f, const slp_fod_platform *p, slp_version v)
+{
+	field(f, p->platform);
+	float_field(f, p->height);
+	record(f, p->version, v, p->bits, 2);
+}
+
+static void whispy(flat *f, const slp_dreamland_whispy *p, slp_version v)
+{
+	field(f, p->direction);
+	record(f, p->version, v, p->bits, 1);
+}
+
+static void stadium(flat *f, const slp_stadium_transformation *p, slp_version v)
+{
+	field(f, p->event);
+	field(f, p->type_id);
+	record(f, p->version, v, p->bits, 2);
+}
+
+static void frame_start(flat *f, const slp_frame_start *r, slp_version v)
+{
+	field(f, r->random_seed);
+	field(f, r->scene_frame_counter);
+	record(f, r->version, v, r->bits, 2);
+}
+
+static void frame_end(flat *f, const slp_frame_end *r, slp_version v)
+{
+	field(f, (uint32_t)r->latest_finalized_frame);
+	record(f, r->version, v, r->bits, 1);
+}
+
 /* ---- a frame */
 
 static void data(flat *f, const slp_data *d, slp_version v)
@@ -176,11 +209,8 @@ static void frame(flat *f, const slp_frame *r, slp_version v)
 			port(f, &r->ports[i], v);
 		else
 			no_port(f, &r->ports[i]);
-	field(f, r->start.random_seed);
-	field(f, r->start.scene_frame_counter);
-	record(f, r->start.version, v, r->start.bits, 2);
-	field(f, (uint32_t)r->end.latest_finalized_frame);
-	record(f, r->end.version, v, r->end.bits, 1);
+	frame_start(f, &r->start, v);
+	frame_end(f, &r->end, v);
 	range(f, r->items);
 	range(f, r->fod_platforms);
 	range(f, r->dreamland_whispys);
@@ -202,18 +232,13 @@ static void stage_row(flat *f, const input *in, row_kind kind, size_t index)
 	const slp_stores *s = &in->stores;
 	if (kind == FOD_ROW) {
 		slp_fod_platform_answer a = slp_fod_platform_row(*g, SLP_STORES(s), index);
-		field(f, a.row.platform);
-		float_field(f, a.row.height);
-		record(f, a.row.version, carried(f, in, a.refused), a.row.bits, 2);
+		fod(f, &a.row, carried(f, in, a.refused));
 	} else if (kind == WHISPY_ROW) {
 		slp_dreamland_whispy_answer a = slp_dreamland_whispy_row(*g, SLP_STORES(s), index);
-		field(f, a.row.direction);
-		record(f, a.row.version, carried(f, in, a.refused), a.row.bits, 1);
+		whispy(f, &a.row, carried(f, in, a.refused));
 	} else {
 		slp_stadium_transformation_answer a = slp_stadium_transformation_row(*g, SLP_STORES(s), index);
-		field(f, a.row.event);
-		field(f, a.row.type_id);
-		record(f, a.row.version, carried(f, in, a.refused), a.row.bits, 2);
+		stadium(f, &a.row, carried(f, in, a.refused));
 	}
 }
 
@@ -249,6 +274,57 @@ flat guarded_row(const input *in, row_kind kind, size_t slot, size_t index)
 	lend_input(&lent, loans);
 	any_row(&f, &lent, kind, slot, index);
 	take_back(loans);
+	return f;
+}
+
+/* ---- rows of cells */
+
+static void given_stage(flat *f, uint8_t number, const uint32_t *cells, size_t len, slp_version v)
+{
+	if (number == SLP_FAMILY_FOD_PLATFORM) {
+		slp_fod_platform r = slp_fod_platform_of(cells, len, v);
+		fod(f, &r, v);
+	} else if (number == SLP_FAMILY_DREAMLAND_WHISPY) {
+		slp_dreamland_whispy r = slp_dreamland_whispy_of(cells, len, v);
+		whispy(f, &r, v);
+	} else {
+		slp_stadium_transformation r = slp_stadium_transformation_of(cells, len, v);
+		stadium(f, &r, v);
+	}
+}
+
+static void given(flat *f, uint8_t number, const uint32_t *cells, size_t len, slp_version v, uint32_t present)
+{
+	if (number == SLP_FAMILY_PRE) {
+		slp_pre r = slp_pre_of(cells, len, v, present);
+		mark(f, r.present);
+		pre(f, &r, v);
+	} else if (number == SLP_FAMILY_POST) {
+		slp_post r = slp_post_of(cells, len, v, present);
+		mark(f, r.present);
+		post(f, &r, v);
+	} else if (number == SLP_FAMILY_ITEM) {
+		slp_item r = slp_item_of(cells, len, v);
+		item(f, &r, v);
+	} else if (number == SLP_FAMILY_FRAME_START) {
+		slp_frame_start r = slp_frame_start_of(cells, len, v);
+		frame_start(f, &r, v);
+	} else if (number == SLP_FAMILY_FRAME_END) {
+		slp_frame_end r = slp_frame_end_of(cells, len, v);
+		frame_end(f, &r, v);
+	} else {
+		given_stage(f, number, cells, len, v);
+	}
+}
+
+flat given_row(uint8_t number, const uint32_t *cells, size_t len, slp_version version, uint32_t present)
+{
+	flat f;
+	memset(&f, 0, sizeof f);
+	loan l = lend(cells, len, 4);
+	given(&f, number, (const uint32_t *)(const void *)l.data, len, version, present);
+	CHECK(kept(&l, 0));
+	give_back(&l);
 	return f;
 }
 

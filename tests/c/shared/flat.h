@@ -32,6 +32,8 @@ typedef struct {
 
 /* A call over lent copies of the stores. */
 flat guarded_row(const input *in, row_kind kind, size_t slot, size_t index);
+/* The row of these cells, by the call for the family of that number; its version should be this one. */
+flat given_row(uint8_t number, const uint32_t *cells, size_t len, slp_version version, uint32_t present);
 /* Whether a row has these values: in a float's field a NaN may be any NaN. */
 int flat_is(const flat *f, const uint32_t *should, size_t n);
 /* Whether its players have these marks. */

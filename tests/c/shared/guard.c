@@ -173,6 +173,23 @@ uint8_t guarded_rollbacks(const uint32_t *ids, size_t ids_len, uint8_t keep, uin
 	return n;
 }
 
+slp_run guarded_rows(const input *in, uint32_t *out, size_t out_len, uint8_t family, size_t slot, size_t from, size_t to)
+{
+	input lent = *in;
+	loan loans[LOANS];
+	lend_input(&lent, loans);
+	loan o = lend(out, out_len, 4);
+	slp_run r = slp_rows((uint32_t *)(void *)o.data, out_len, lent.game.frames, SLP_STORES(&lent.stores), family, slot, from, to);
+	take_back(loans);
+	CHECK(r.refused <= 7 || r.refused == 12 || r.refused == 13);
+	CHECK(r.refused ? r.len == 0 : r.len <= out_len);
+	CHECK(kept(&o, 4 * r.len));
+	if (out_len)
+		memcpy(out, o.base + o.front, 4 * out_len);
+	give_back(&o);
+	return r;
+}
+
 slp_walked guarded_walk(const uint8_t *file, size_t len)
 {
 	loan f = lend(file, len, 1);

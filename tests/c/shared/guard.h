@@ -43,6 +43,8 @@ slp_written guarded_write(const input *in, uint8_t *out, size_t out_len);
 slp_appended guarded_run(const input *in, uint8_t *out, size_t out_len, size_t place, size_t a, size_t b);
 uint8_t guarded_rollbacks(const uint32_t *ids, size_t ids_len, uint8_t keep, uint8_t *mask, size_t mask_len, uint8_t *scratch,
                           size_t scratch_len);
+/* Over lent copies of the stores alone: `family` is SLP_FAMILY_.. or any number. */
+slp_run guarded_rows(const input *in, uint32_t *out, size_t out_len, uint8_t family, size_t slot, size_t from, size_t to);
 slp_walked guarded_walk(const uint8_t *file, size_t len);
 slp_step guarded_step(const uint8_t *file, size_t len, size_t place);
 size_t guarded_first_place(const uint8_t *file, size_t len);

@@ -1,9 +1,9 @@
--- `slp::columns::family_of` meets its contract.
+-- `run_rows::family::family_of` meets its contract.
 -- Assumes nothing.
 use borrow.Author.Needs.{needs}
-use Rattle.slp.proofs.Laws.{last-family}
-use Rattle.slp.proofs.columns.family_of.Statement.{statement}
-use Rattle.slp.proofs.columns.family_of.Tie as tie
+use Rattle.run_rows.proofs.Families.{last-family}
+use Rattle.run_rows.proofs.family.family_of.Statement.{statement}
+use Rattle.run_rows.proofs.family.family_of.Tie as tie
 
 returns-8 : tie.Need-returns-8
 returns-8 c = let r = c .match .rest in last-family (c .before .args .n) (r .0 .0 .0 .0 .0 .0 .1, r .0 .0 .0 .0 .0 .1, r .0 .0 .0 .0 .1, r .0 .0 .0 .1, r .0 .0 .1, r .0 .1, r .1)

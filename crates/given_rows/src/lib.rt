@@ -1,0 +1,3 @@
+// Rows of cells that are given, whatever they are.
+pub mod given;
+mod narrow;
