@@ -1,0 +1,205 @@
+-- The laws of one turn.
+-- Assumes nothing.
+use mathlib.Core.Path.{_≡_, refl, sym, ap, subst, _∙_}
+use mathlib.Core.Bool.{Bool, true, false, cond, not, _&&_, _||_}
+use mathlib.Core.List.{List}
+use mathlib.Core.Option.{Option, none, some}
+use Prim.Native.Nat.{ℕ, zero, suc, _+_, _-_, _*_, _^_, _≤_, _<_}
+use native.Mathlib.Nat.{suc-mul, zero-mul}
+use native.Mathlib.Omega.{arith}
+use borrow.Author.Tests.{le-leb, lt-leb, leb-true, eqb-true}
+use lib.Dec.{leb, eqb}
+use lib.ListN.{length, getD}
+use Rattle.format.specs.declared.version.Version.{Version}
+use Rattle.layout.specs.Columns.{hasFamily}
+use Rattle.layout.specs.Payloads.{recordSize}
+use Rattle.layout.specs.declared.columns.Family.{Family}
+use Rattle.layout.specs.declared.columns.Family.the-variants.{Pre, Post, FrameStart, Item, FrameEnd, FodPlatform, DreamlandWhispy, StadiumTransformation}
+use Rattle.grammar.specs.WellFormed.{Order, mayCome}
+use Rattle.grammar.specs.Machine.{familyOf, onFamily, initial, slotSaid, isNext, closed, inFrame, player, orderly, after}
+use Rattle.grammar.proofs.Tests.{both}
+use Rattle.frame_order.specs.Inner.{slotAt, dueIn, saidOf, stateIn, closedAt, Held, Ready, After}
+use Rattle.frame_order.specs.declared.place.Place.{Place}
+use Rattle.frame_order.specs.declared.place.Word.{Word}
+use Rattle.frame_order.proofs.Steps.{closed-is}
+use Rattle.frame_order.proofs.Laws.{room-go}
+use Rattle.frame_scan.specs.Inner.{kindOf, Asked, Gone, Tried, endsAt, saidAt, spanAt, stops, takesAt, scan}
+use Rattle.frame_scan.specs.declared.event.Kind.the-variants.{Frame, Other}
+use Rattle.frame_scan.specs.declared.event.Turn.{Turn}
+
+module _ (v : Version) (family : Family) (span : ℕ) where
+  pub fits-is : (b : Bool) (r : ℕ) → b ≡ hasFamily v family → b ≡ true → r ≡ recordSize family v → eqb span (1 + r) ≡ (hasFamily v family && eqb span (1 + recordSize family v))
+  fits-is b r x y z = rw (z, sym x ∙ y)
+
+  pub fits-not : (b : Bool) → b ≡ hasFamily v family → b ≡ false → false ≡ (hasFamily v family && eqb span (1 + recordSize family v))
+  fits-not b x y = rw (sym x ∙ y)
+
+-- ---- what an event in order needs
+
+fewer : (n span : ℕ) → 7 ≤ span → 7 * n ≤ n * span
+fewer zero span h = omega (arith, zero-mul span)
+fewer (suc n) span h = let f = fewer n span h in let s = suc-mul n span in omega arith
+
+module _ (v : Version) (o : Order) (file : List ℕ) (span : ℕ) (m : Place) (w : Word) (at next : ℕ)
+    (held : Held span m at) (span-is : span ≡ 1 + recordSize Pre v) (low : next < 2 ^ 64) (said : saidOf w ≡ saidAt file at) where
+  closed-nobody : closed v (stateIn file span m) ≡ true → m .due ≡ 0
+  unfolding closedAt
+  closed-nobody c =
+      let e = sym (closed-is v o file span m w) ∙ c in
+      let d = both (eqb (m .due) 0) (not (hasFamily v FrameEnd) || eqb (m .rank) 8) e .0 in
+      eqb-true (m .due) 0 d
+
+  next-some : (n : ℕ) (k : ℕ) → isNext (dueIn file span (m .pre) n) k ≡ true → 0 < n
+  unfolding isNext dueIn
+  next-some zero k q = let z : _≡_ {A = ℕ} 0 1 = cc in absurd (omega arith)
+  next-some (suc n) k q = omega arith
+
+  joined-now : (inFrame (stateIn file span m) 2 (saidOf w) || (not (hasFamily v FrameStart) && closed v (stateIn file span m))) ≡ true → (m .due ≡ 0 → ⊥)
+      → m .pre + m .due * span ≡ at
+  unfolding inFrame
+  joined-now q n = go (leb (m .rank) 2) refl q
+    where
+      go : (b : Bool) → leb (m .rank) 2 ≡ b → ((b && eqb (m .id) (w .id)) || (not (hasFamily v FrameStart) && closed v (stateIn file span m))) ≡ true → m .pre + m .due * span ≡ at
+      go true e q = held .joined (leb-true (m .rank) 2 e) n
+      go false e q = absurd (n (closed-nobody (both (not (hasFamily v FrameStart)) (closed v (stateIn file span m)) q .1)))
+
+  ready-of : (family : Family) → next ≡ at + (1 + recordSize family v) → orderly v o (stateIn file span m) family (saidOf w) ≡ true → Ready file span m w at next family
+  unfolding orderly slotAt
+  ready-of Pre e q =
+      let (place, more) = both (inFrame (stateIn file span m) 2 (saidOf w) || (not (hasFamily v FrameStart) && closed v (stateIn file span m)))
+      (player (saidOf w) && mayCome o (dueIn file span (m .pre) (m .due)) (slotSaid (saidOf w))) q in
+      let few = fewer (m .due) span (omega arith) in
+      let i = held .inside in
+      record { few = omega arith; follows = joined-now place; slot = sym (ap slotSaid said); next-is = omega arith }
+  ready-of Post e q =
+      let more = both (inFrame (stateIn file span m) 7 (saidOf w)) (player (saidOf w) && isNext (dueIn file span (m .pre) (m .due)) (slotSaid (saidOf w))) q .1 in
+      let n = both (player (saidOf w)) (isNext (dueIn file span (m .pre) (m .due)) (slotSaid (saidOf w))) more .1 in
+      let d = next-some (m .due) (slotSaid (saidOf w)) n in
+      let r = room-go (m .pre) (m .due) span at d (held .inside) .1 in
+      (d, omega arith)
+  ready-of FrameStart e q = closed-nobody q
+  ready-of FodPlatform e q = tt
+  ready-of DreamlandWhispy e q = tt
+  ready-of StadiumTransformation e q = tt
+  ready-of Item e q = tt
+  ready-of FrameEnd e q = tt
+
+  -- by the code's answer
+  pub ready-if : (family : Family) → next ≡ at + (1 + recordSize family v) → (b : Bool) → b ≡ orderly v o (stateIn file span m) family (saidOf w) → b ≡ true
+      → Ready file span m w at next family
+  ready-if family e b b-is t = ready-of family e (sym b-is ∙ t)
+
+-- ---- the answers of a try
+
+pub size-of : (v : Version) (n : ℕ) (family : Family) (f : Bool) → f ≡ (hasFamily v family && eqb n (1 + recordSize family v)) → f ≡ true → n ≡ 1 + recordSize family v
+size-of v n family f e t = eqb-true n (1 + recordSize family v) (both (hasFamily v family) (eqb n (1 + recordSize family v)) (sym e ∙ t) .1)
+
+module _ (v : Version) (o : Order) (file : List ℕ) (span stop : ℕ) (m : Place) (at n : ℕ) (family : Family) (f : Bool)
+    (f-is : f ≡ (hasFamily v family && eqb n (1 + recordSize family v))) where
+  pub not-fits : f ≡ false → takesAt v o file stop (stateIn file span m) at n family ≡ false
+  unfolding takesAt
+  not-fits e = rw (sym f-is ∙ e)
+
+  pub not-whole : f ≡ true → at ≤ stop → stop - at < n → takesAt v o file stop (stateIn file span m) at n family ≡ false
+  unfolding takesAt
+  not-whole e u l = rw (sym f-is ∙ e, lt-leb (at + n) stop (omega arith))
+
+  module _ (e : f ≡ true) (u : at ≤ stop) (l : n ≤ stop - at) (w : Word) (said : saidOf w ≡ saidAt file at) (b : Bool)
+      (b-is : b ≡ orderly v o (stateIn file span m) family (saidOf w)) where
+    taken-as : takesAt v o file stop (stateIn file span m) at n family ≡ b
+    unfolding takesAt
+    taken-as = rw (sym f-is ∙ e, le-leb (at + n) stop (omega arith), b-is, said)
+
+    pub not-orderly : b ≡ false → takesAt v o file stop (stateIn file span m) at n family ≡ false
+    not-orderly q = taken-as ∙ q
+
+    pub gone : b ≡ true → (next : ℕ) → next ≡ at + n → Asked v file span stop m at → (place : Place) → After file span m w next family place
+        → Gone v o file span stop m at n family place next
+    gone q next x a place h =
+        let s = size-of v n family f f-is e in
+        record {
+          taken = taken-as ∙ q;
+          state-is = h .state-is ∙ ap (after (stateIn file span m) family) said;
+          next-is = x;
+          asked = record { held = h .held; under = omega arith; long = a .long; span-is = a .span-is };
+          later = omega arith;
+        }
+
+-- ---- the frames end, or not
+
+module _ (v : Version) (m : Place) (at : ℕ) (b : Bool) (b-is : b ≡ closedAt v m) where
+  pub ends-here : b ≡ true → some at ≡ endsAt v m at
+  ends-here t = rw (sym b-is ∙ t)
+
+  pub ends-not : b ≡ false → none ≡ endsAt v m at
+  ends-not t = rw (sym b-is ∙ t)
+
+-- ---- the loop
+
+pub record Turning (v : Version) (o : Order) (file spans : List ℕ) (stop span first : ℕ) (m : Place) (at count : ℕ) : Type 0 where
+  pub asked : Asked v file span stop m at
+  pub few : count ≤ at
+  pub same : scan v o file spans stop (suc stop) first initial ≡ scan v o file spans stop (suc (stop - count)) at (stateIn file span m)
+
+kind-frame : (x : Option Family) (family : Family) → kindOf x ≡ Frame family → x ≡ some family
+kind-frame none family e = let z : _≡_ {A = ℕ} 0 1 = cc in absurd (omega arith)
+kind-frame (some g) family e = let q : g ≡ family = cc in ap {B = Option Family} some q
+
+kind-other : (x : Option Family) → kindOf x ≡ Other → x ≡ none
+kind-other none e = refl
+kind-other (some g) e = let z : _≡_ {A = ℕ} 0 1 = cc in absurd (omega arith)
+
+module _ (v : Version) (o : Order) (file spans : List ℕ) (stop span first : ℕ) where
+  pub turn-first : first ≤ stop → stop ≤ length file → span ≡ 1 + recordSize Pre v → Turning v o file spans stop span first (record { rank = 8; id = 0; pre = 0; due = 0 }) first 0
+  unfolding dueIn
+  turn-first h k s =
+      let z = zero-mul span in
+      let e : stop - 0 ≡ stop = omega arith in
+      record { asked = record { held = record { inside = omega arith; joined = λ x y. absurd (y refl) }; under = h; long = k; span-is = s }; few = omega arith; same = rw e }
+
+  module _ (m : Place) (at count : ℕ) (t : Turning v o file spans stop span first m at count) where
+    pub turn-end : stop ≤ at → endsAt v m at ≡ scan v o file spans stop (suc stop) first initial
+    unfolding scan stops
+    turn-end l =
+        sym (t .same ∙ rw (le-leb stop at l) (ap (λ (b : Bool). cond b (some at) none) (closed-is v o file span m (record { id = 0; port = 0; follower = 0 }))))
+
+    module _ (l : at < stop) (code : ℕ) (code-is : code ≡ getD file at 0) where
+      pub turn-other : kindOf (familyOf code) ≡ Other → endsAt v m at ≡ scan v o file spans stop (suc stop) first initial
+      unfolding scan stops onFamily
+      turn-other k =
+          let f : familyOf (getD file at 0) ≡ none = ap familyOf (sym code-is) ∙ kind-other (familyOf code) k in
+          sym (t .same ∙ rw (lt-leb stop at l, f) (ap (λ (b : Bool). cond b (some at) none) (closed-is v o file span m (record { id = 0; port = 0; follower = 0 }))))
+
+      module _ (family : Family) (k : kindOf (familyOf code) ≡ Frame family) (n : ℕ) (n-is : n ≡ getD spans code 0) where
+        is-family : familyOf (getD file at 0) ≡ some family
+        is-family = ap familyOf (sym code-is) ∙ kind-frame (familyOf code) family k
+
+        span-is : n ≡ spanAt spans file at
+        span-is = n-is ∙ ap (λ (c : ℕ). getD spans c 0) code-is
+
+        one-turn : (j : ℕ) → scan v o file spans stop (suc j) at (stateIn file span m)
+            ≡ cond (takesAt v o file stop (stateIn file span m) at n family) (scan v o file spans stop j (at + n) (after (stateIn file span m) family (saidAt file at))) none
+        unfolding scan onFamily
+        one-turn j =
+            rw (lt-leb stop at l, is-family)
+            (ap (λ (n : ℕ). cond (takesAt v o file stop (stateIn file span m) at n family) (scan v o file spans stop j (at + n) (after (stateIn file span m) family (saidAt file at))) none) (sym span-is))
+
+        pub turn-refused : takesAt v o file stop (stateIn file span m) at n family ≡ false → none ≡ scan v o file spans stop (suc stop) first initial
+        turn-refused q = sym (t .same ∙ one-turn (stop - count) ∙ rw q)
+
+        pub turn-goes : (place : Place) (next : ℕ) → Gone v o file span stop m at n family place next → Turning v o file spans stop span first place next (count + 1)
+        turn-goes place next g =
+            let e : stop - count ≡ suc (stop - (count + 1)) = omega (arith, t .few) in
+            let taken = g .taken in
+            record {
+              asked = g .asked;
+              few = omega (arith, t .few, g .later);
+              same =
+                  t .same
+                  ∙ one-turn (stop - count)
+                  ∙ rw (taken, e, ← g .next-is, ← g .state-is);
+            }
+
+pub tried-as : (v : Version) (o : Order) (file : List ℕ) (span stop : ℕ) (m : Place) (at n : ℕ) (family : Family) (r q : Turn) → r ≡ q → Tried v o file span stop m at n family r
+    → Tried v o file span stop m at n family q
+tried-as v o file span stop m at n family r q e h = subst (λ (t : Turn). Tried v o file span stop m at n family t) e h

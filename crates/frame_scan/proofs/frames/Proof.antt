@@ -1,0 +1,150 @@
+-- `frame_scan::frames` meets its contract. The invariant: the answer is that of what is left.
+-- Assumes nothing.
+use borrow.Author.Needs.{needs}
+use mathlib.Core.Path.{refl, sym, ap, _∙_}
+use Prim.Native.Nat.{_+_, _-_}
+use native.Mathlib.Omega.{arith}
+use lib.ListN.{getD}
+use Rattle.frame_order.specs.Inner.{orderOf}
+use Rattle.frame_scan.proofs.Turns.{Turning, turn-first, turn-end, turn-other, turn-refused, turn-goes, tried-as}
+use Rattle.frame_scan.specs.declared.event.Turn.the-variants.{Goes, Refused}
+use Rattle.frame_scan.proofs.frames.Statement.{statement}
+use Rattle.frame_scan.proofs.frames.Tie as tie
+use Rattle.frame_scan.proofs.frames.Reads as reads
+use Rattle.frame_scan.proofs.frames.Lts as lts
+use Rattle.frame_scan.proofs.ended.Reads as ended-reads
+use Rattle.frame_scan.proofs.event.kind_of.Reads as kind-of-reads
+use Rattle.frame_scan.proofs.event.span_of.Reads as span-of-reads
+use Rattle.frame_scan.proofs.event.try_event.Reads as try-event-reads
+use Rattle.layout.proofs.payloads.record_size.Reads as record-size-reads
+
+abbrev Inv-loop : tie.InvT-loop
+Inv-loop file spans v any first stop span m₀ at₀ count₀ m at count = Turning v (orderOf any) file spans stop span first m at count
+
+abbrev μ-loop : tie.MeasureT-loop
+μ-loop file spans v any first stop span m₀ at₀ count₀ m at count = stop - at
+
+record-size-requires : tie.Need-record-size-requires Inv-loop μ-loop
+record-size-requires c κs = tt
+
+add-span : tie.Need-add-span Inv-loop μ-loop
+add-span c = search needs
+
+loop-holds : tie.Need-loop-holds Inv-loop μ-loop
+loop-holds c =
+    let a = c .before .before .before .args in
+    let h = c .before .before .before .pre in
+    turn-first (a .v) (orderOf (a .any)) (a .file .now) (a .spans .now) (a .stop) _ (a .first) (h .0) (h .1) (ap (λ n. 1 + n) (c .record-size .ensures .0))
+
+shared-slice-read-code : tie.Need-shared-slice-read-code Inv-loop μ-loop
+shared-slice-read-code c = omega (arith, c .before .before .loop .inv .asked .long)
+
+kind-of-requires : tie.Need-kind-of-requires Inv-loop μ-loop
+kind-of-requires c κs = tt
+
+enum-known-k : tie.Need-enum-known-k Inv-loop μ-loop
+enum-known-k c = search needs
+
+enum-told : tie.Need-enum-told Inv-loop μ-loop
+enum-told c = search needs
+
+ended-requires : tie.Need-ended-requires Inv-loop μ-loop
+ended-requires c κs = tt
+
+returns : tie.Need-returns Inv-loop μ-loop
+returns c =
+    let a = c .before .before .before .before .before .before .before .before .before .before .args in
+    let l = c .before .before .before .before .before .before .loop in
+    let code = getD (a .file .now) (l .at) 0 in
+    c .ended .ensures ∙ turn-other (a .v) (orderOf (a .any)) (a .file .now) (a .spans .now) (a .stop) _ (a .first) (l .m) (l .at) (l .count) (l .inv) (omega arith) code refl
+    (sym (c .before .before .before .kind-of .ensures) ∙ c .before .enum-told .given .1)
+
+span-of-requires : tie.Need-span-of-requires Inv-loop μ-loop
+span-of-requires c κs = c .before .before .before .before .before .before .before .before .before .before .pre .2
+
+try-event-requires : tie.Need-try-event-requires Inv-loop μ-loop
+try-event-requires c κs = c .before .before .before .before .before .before .before .loop .inv .asked
+
+enum-told-2 : tie.Need-enum-told-2 Inv-loop μ-loop
+enum-told-2 c = search needs
+
+returns-2 : tie.Need-returns-2 Inv-loop μ-loop
+returns-2 c =
+    let a = c .before .before .before .before .before .before .before .before .before .before .before .before .before .before .args in
+    let l = c .before .before .before .before .before .before .before .before .before .before .loop in
+    let code = getD (a .file .now) (l .at) 0 in
+    let k = c .before .before .before .before .before .k .given in
+    let kind = sym (c .before .before .before .before .before .before .before .kind-of .ensures) ∙ k .1 in
+    let n = c .before .before .before .span-of in
+    let e = c .before .before .try-event in
+    turn-refused (a .v) (orderOf (a .any)) (a .file .now) (a .spans .now) (a .stop) _ (a .first) (l .m) (l .at) (l .count) (l .inv) (omega arith) code refl (k .0 .0) kind
+    (n .result) (n .ensures)
+    (tried-as (a .v) (orderOf (a .any)) (a .file .now) _ (a .stop) (l .m) (l .at) (n .result) (k .0 .0) (e .result) Refused (c .enum-told2 .given .1) (e .ensures))
+
+enum-known-t : tie.Need-enum-known-t Inv-loop μ-loop
+enum-known-t c = search needs
+
+add-count : tie.Need-add-count Inv-loop μ-loop
+add-count c = omega (arith, c .before .before .before .before .before .before .before .before .before .before .before .loop .inv .few)
+
+loop-less : tie.Need-loop-less Inv-loop μ-loop
+loop-less c =
+    let a = c .before .before .before .before .before .before .before .before .before .before .before .before .before .before .before .args in
+    let l = c .before .before .before .before .before .before .before .before .before .before .before .loop in
+    let code = getD (a .file .now) (l .at) 0 in
+    let k = c .before .before .before .before .before .before .k .given in
+    let kind = sym (c .before .before .before .before .before .before .before .before .kind-of .ensures) ∙ k .1 in
+    let n = c .before .before .before .before .span-of in
+    let e = c .before .before .before .try-event in
+    let t = c .before .t .given in
+    let g = tried-as (a .v) (orderOf (a .any)) (a .file .now) _ (a .stop) (l .m) (l .at) (n .result) (k .0 .0) (e .result) (Goes (t .0 .0) (t .0 .1 .0)) (t .1) (e .ensures) in
+    omega (arith, g .later, g .asked .under)
+
+loop-again : tie.Need-loop-again Inv-loop μ-loop
+loop-again c =
+    let a = c .before .before .before .before .before .before .before .before .before .before .before .before .before .before .before .args in
+    let l = c .before .before .before .before .before .before .before .before .before .before .before .loop in
+    let code = getD (a .file .now) (l .at) 0 in
+    let k = c .before .before .before .before .before .before .k .given in
+    let kind = sym (c .before .before .before .before .before .before .before .before .kind-of .ensures) ∙ k .1 in
+    let n = c .before .before .before .before .span-of in
+    let e = c .before .before .before .try-event in
+    let t = c .before .t .given in
+    let g = tried-as (a .v) (orderOf (a .any)) (a .file .now) _ (a .stop) (l .m) (l .at) (n .result) (k .0 .0) (e .result) (Goes (t .0 .0) (t .0 .1 .0)) (t .1) (e .ensures) in
+    turn-goes (a .v) (orderOf (a .any)) (a .file .now) (a .spans .now) (a .stop) _ (a .first) (l .m) (l .at) (l .count) (l .inv) (omega arith) code refl (k .0 .0) kind (n .result)
+    (n .ensures) (t .0 .0) (t .0 .1 .0) g
+
+ended-requires-2 : tie.Need-ended-requires-2 Inv-loop μ-loop
+ended-requires-2 c κs = tt
+
+returns-3 : tie.Need-returns-3 Inv-loop μ-loop
+returns-3 c =
+    let a = c .before .before .before .before .before .before .args in
+    let l = c .before .before .loop in
+    c .ended2 .ensures ∙ turn-end (a .v) (orderOf (a .any)) (a .file .now) (a .spans .now) (a .stop) _ (a .first) (l .m) (l .at) (l .count) (l .inv) (omega arith)
+
+pub frames-spec : {M : Type 1} → statement M
+frames-spec =
+    tie.close
+    (tie.spec
+    Inv-loop
+    μ-loop
+    record-size-requires
+    add-span
+    loop-holds
+    shared-slice-read-code
+    kind-of-requires
+    enum-known-k
+    enum-told
+    ended-requires
+    returns
+    span-of-requires
+    try-event-requires
+    enum-told-2
+    returns-2
+    enum-known-t
+    add-count
+    loop-less
+    loop-again
+    ended-requires-2
+    returns-3)

@@ -1,0 +1,88 @@
+-- What functions promise each other: the machine over the bytes of a file, in the order in which code goes, a place and a state at a time.
+-- Assumes nothing.
+use Prim.Native.Nat.{ℕ, zero, suc, _+_, _≤_, _<_}
+use mathlib.Core.Path.{_≡_}
+use mathlib.Core.Bool.{Bool, true, false, cond, _&&_}
+use mathlib.Core.List.{List}
+use mathlib.Core.Option.{Option, none, some}
+use lib.Dec.{leb, eqb}
+use lib.ListN.{length, getD}
+use Rattle.wire.specs.Wire.{number, part}
+use Rattle.format.specs.declared.version.Version.{Version}
+use Rattle.layout.specs.Columns.{hasFamily}
+use Rattle.layout.specs.Payloads.{recordSize}
+use Rattle.layout.specs.declared.columns.Family.{Family}
+use Rattle.layout.specs.declared.columns.Family.the-variants.{Pre}
+use Rattle.grammar.specs.WellFormed.{Order}
+use Rattle.grammar.specs.Machine.{familyOf, Said, State, closed, orderly, after, onFamily}
+use Rattle.frame_order.specs.Inner.{stateIn, closedAt, Held}
+use Rattle.frame_order.specs.declared.place.Place.{Place}
+use Rattle.frame_scan.specs.declared.event.Kind.{Kind}
+use Rattle.frame_scan.specs.declared.event.Kind.the-variants.{Frame, Other}
+use Rattle.frame_scan.specs.declared.event.Turn.{Turn}
+use Rattle.frame_scan.specs.declared.event.Turn.the-variants.{Goes, Refused}
+use Rattle.frame_scan.specs.declared.Ran.{Ran}
+use Rattle.frame_scan.specs.declared.Ran.the-variants.{Ended, Wrong}
+
+-- ---- the scan
+
+-- what the event at a place says
+abbrev pub saidAt : List ℕ → ℕ → Said
+saidAt file at = record { id = number (part file (at + 1) 4); port = getD file (at + 5) 0; follower = getD file (at + 6) 0 }
+
+-- how many bytes it has, by the table: spans are one more than the payloads' sizes
+abbrev pub spanAt : List ℕ → List ℕ → ℕ → ℕ
+spanAt spans file at = getD spans (getD file at 0) 0
+
+-- an event of a family that the version has, n bytes long as its records are, whole before stop, and in order
+unfoldable pub takesAt : Version → Order → List ℕ → ℕ → State → ℕ → ℕ → Family → Bool
+takesAt v o file stop s at n family = (hasFamily v family && eqb n (1 + recordSize family v)) && (leb (at + n) stop && orderly v o s family (saidAt file at))
+
+module _ (v : Version) (o : Order) (file spans : List ℕ) (stop : ℕ) where
+  abbrev pub takes : State → ℕ → Family → Bool
+  takes s at family = takesAt v o file stop s at (spanAt spans file at) family
+
+  unfoldable pub stops : State → ℕ → Option ℕ
+  stops s at = cond (closed v s) (some at) none
+
+  -- where the frames end that begin at a place, in n events at most
+  unfoldable pub scan : ℕ → ℕ → State → Option ℕ
+  scan zero at s = none
+  scan (suc n) at s =
+      cond (leb stop at) (stops s at)
+      (onFamily (familyOf (getD file at 0)) (λ family. cond (takes s at family) (scan n (at + spanAt spans file at) (after s family (saidAt file at))) none) (stops s at))
+
+-- ---- one turn of the loop
+
+abbrev pub kindOf : Option Family → Kind
+kindOf none = Other
+kindOf (some family) = Frame family
+
+-- what the loop knows at a place
+pub record Asked (v : Version) (file : List ℕ) (span stop : ℕ) (m : Place) (at : ℕ) : Type 0 where
+  pub held : Held span m at
+  pub under : at ≤ stop
+  pub long : stop ≤ length file
+  pub span-is : span ≡ 1 + recordSize Pre v
+
+-- an event of n bytes was tried
+pub record Gone (v : Version) (o : Order) (file : List ℕ) (span stop : ℕ) (m : Place) (at n : ℕ) (family : Family) (place : Place) (next : ℕ) : Type 0 where
+  pub taken : takesAt v o file stop (stateIn file span m) at n family ≡ true
+  pub state-is : stateIn file span place ≡ after (stateIn file span m) family (saidAt file at)
+  pub next-is : next ≡ at + n
+  pub asked : Asked v file span stop place next
+  pub later : at < next
+
+-- what a try answers
+abbrev pub Tried : Version → Order → List ℕ → ℕ → ℕ → Place → ℕ → ℕ → Family → Turn → Type 0
+Tried v o file span stop m at n family (Goes place next) = Gone v o file span stop m at n family place next
+Tried v o file span stop m at n family Refused = takesAt v o file stop (stateIn file span m) at n family ≡ false
+
+-- the answer: where the frames end, or nowhere
+abbrev pub ranOf : Ran → Option ℕ
+ranOf (Ended at) = some at
+ranOf Wrong = none
+
+-- where the frames end that stand so at a place
+abbrev pub endsAt : Version → Place → ℕ → Option ℕ
+endsAt v m at = cond (closedAt v m) (some at) none

@@ -1,0 +1,12 @@
+pub mod Tests
+pub mod Each
+pub mod Lists
+pub mod Unique
+pub mod Orders
+pub mod Takes
+pub mod Left
+pub mod Made
+pub mod Exactly
+pub mod Blocks
+pub mod Whole
+pub mod Cases
