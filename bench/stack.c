@@ -97,6 +97,22 @@ static void call_columns(void) { kept = 1u + slp_columns(game.frames.version, SL
 static void call_room(void) { kept = slp_room(slp_plan_of(&game, block.len, codes.len, metadata.len)).bytes; }
 static void call_first_place(void) { kept = slp_first_place(file, file_len); }
 
+/* A map with eight others inside each other, as deep as it may be. */
+enum { DEEP = 8 };
+static slp_entry deep[DEEP];
+static uint8_t deep_body[5 * DEEP];
+static size_t deep_len;
+
+static void call_write_map(void)
+{
+	for (int i = 0; i < DEEP; i++)
+		deep[i] = (slp_entry){ SLP_ENTRY_MAP, 0, 1, i + 1 < DEEP, 0 };
+	deep_len = slp_write_map(deep_body, sizeof deep_body, deep, SLP_CELLS(DEEP), (const uint8_t *)"k", 1, 1).len;
+	kept = deep_len;
+}
+
+static void call_read_map(void) { kept = slp_read_map(deep_body, deep_len, deep, SLP_CELLS(DEEP)).entries; }
+
 /* What a call may take: a little more than it does, and less than it would with a block of 760 bytes besides. */
 static const struct {
 	const char *name;
@@ -108,6 +124,8 @@ static const struct {
 	{ "slp_write_frame", call_write_frame, 4900 },
 	{ "slp_walk", call_walk, 2800 },
 	{ "slp_step_at", call_step_at, 2800 },
+	{ "slp_write_map", call_write_map, 1900 },
+	{ "slp_read_map", call_read_map, 1800 },
 	{ "slp_rollbacks", call_rollbacks, 256 },
 	{ "slp_frame_row", call_frame_row, 10900 },
 	{ "slp_pre_row", call_pre_row, 3500 },

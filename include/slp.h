@@ -63,7 +63,15 @@ enum {
 	SLP_UNKNOWN_EVENT = 16,
 	/* reader, at the event: event overruns event data that is present to its declared end; or, judged before 16, a place before the
 	 * table's end or past the event data present */
-	SLP_BAD_PLACE = 17
+	SLP_BAD_PLACE = 17,
+	/* metadata map: a map more than 8 deep below the body's own */
+	SLP_TOO_DEEP = 20,
+	/* metadata map: a key or text over 255 bytes */
+	SLP_LONG_TEXT = 21,
+	/* metadata map: a key twice in one map */
+	SLP_REPEATED_KEY = 22,
+	/* metadata map: entries that are no map; a body that the writer cannot give */
+	SLP_BAD_BODY = 23
 };
 
 /* ---- maxima */
@@ -561,6 +569,54 @@ slp_appended slp_write_frames(uint8_t *out, size_t out_len, size_t place, slp_fr
 
 /* Frame `i` alone: the run from i up to i + 1. */
 slp_appended slp_write_frame(uint8_t *out, size_t out_len, size_t place, slp_frames frames, SLP_STORE_PARAMETERS, size_t i);
+
+/* ======== the metadata map ========
+ *
+ * The body of an encoded map, as slp_write takes it: entries of a key and a value, which is a text of at most 255 bytes, a signed 32-bit number
+ * or a map, at most 8 deep below the body's own. Keys are texts too, and stand once in a map. Texts are bytes and may hold zeros. */
+
+enum { SLP_ENTRY_TEXT = 0, SLP_ENTRY_NUMBER = 1, SLP_ENTRY_MAP = 2 };
+
+/* An entry: five cells. Entries stand in the order of the body, those of a map's value right behind its own. */
+typedef struct {
+	uint32_t kind;      /* SLP_ENTRY_... */
+	uint32_t key;       /* where the key stands in the text store */
+	uint32_t key_len;
+	uint32_t value;     /* where a text stands in the text store; a number's bits; how many entries a map has itself */
+	uint32_t len;       /* a text's length; else not looked at, and 0 where it was read */
+} slp_entry;
+
+/* How many cells so many entries are. */
+#define SLP_ENTRY_CELLS 5u
+#define SLP_CELLS(entries) (SLP_ENTRY_CELLS * (size_t)(entries))
+
+/* The body of the map of `count` entries (those inside its maps not counted), at the start of `out`; bytes past it stay. `texts` holds the keys and
+ * texts. `cells` is SLP_CELLS of all entries that are lent, and all of them must be the map's. `len` is the body's length. Refused with the lowest
+ * number that applies of 20, 21, 22, 23, 2 (a body over SLP_MAX_METADATA bytes) and 12, in this order.
+ *
+ *     const uint8_t texts[] = "lastFrameplayedOndolphin";
+ *     slp_entry entries[2] = { { SLP_ENTRY_NUMBER, 0, 9, 1234, 0 }, { SLP_ENTRY_TEXT, 9, 8, 17, 7 } };
+ *     uint8_t body[64];
+ *     slp_written m = slp_write_map(body, sizeof body, entries, SLP_CELLS(2), texts, 24, 2);    // m.len is 36
+ */
+slp_written slp_write_map(uint8_t *out, size_t out_len, const slp_entry *entries, size_t cells, const uint8_t *texts, size_t texts_len,
+                          size_t count);
+
+typedef struct {
+	uint8_t refused;   /* 0, or 20 to 23, 2, 12 */
+	size_t place;      /* 20 to 23: the first wrong place in the body; else 0 */
+	size_t count;      /* how many entries the map has itself */
+	size_t entries;    /* how many it has in all, those inside its maps too */
+} slp_map_read;
+
+/* The entries of a body, at the start of a store of `cells` cells; entries past them stay. Keys and texts stand in the body itself, which is their
+ * text store. It takes exactly the bodies that slp_write_map gives. The first wrong place decides between 20 and 23; then come 2, and 12 for a store
+ * that is too short. Looking for a key twice takes time with the square of a map's entries.
+ *
+ *     slp_entry back[8];
+ *     slp_map_read r = slp_read_map(body, m.len, back, SLP_CELLS(8));    // r.count is 2, back[0].key is 2
+ */
+slp_map_read slp_read_map(const uint8_t *body, size_t body_len, slp_entry *entries, size_t cells);
 
 /* ======== rows ========
  *

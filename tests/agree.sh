@@ -26,7 +26,7 @@ agree 'the refusals of docs/API.md and include/slp.h' api header
 sed -n 's/^\t\(SLP_[A-Z_]*\) = \([0-9]*\),\{0,1\}$/\1 \2/p' include/slp.h >$to/names
 sed -n 's/^\t\[\(SLP_[A-Z_]*\)\] = \(".*"\),$/\1 \2/p' tools/words.c |
 	awk 'NR == FNR { number[$1] = $2; next } { name = $1; $1 = ""; print number[name] $0 }' $to/names - >$to/tool
-sed -n '/^const WORDS/,/^];/s/^\t\(".*"\),$/\1/p' rust/slp/src/refusals.rs | awk '{ print NR - 1, $0 }' >$to/crate
+sed -n '/^const WORDS/,/^];/s/^\t\(".*"\),$/\1/p' rust/slp/src/refusals.rs | awk '$0 != "\"\"" { print NR - 1, $0 }' >$to/crate
 agree 'the words of tools/words.c and rust/slp' tool crate
 
 # 'FAMILY NAME WIDTH VERSION' of every column, as the definition has them; in the crate without width and version. The header has its families in

@@ -22,11 +22,14 @@ typedef struct {
 	uint8_t block[BLOCK];
 } cells;
 
-/* An encoded map: startAt, lastFrame and playedOn. */
-static const uint8_t METADATA[] =
-	"U\x07" "startAtSU\x14" "2001-12-03T12:00:00Z"
-	"U\x09" "lastFramel\xff\xff\xff\xc0"
-	"U\x08" "playedOnSU\x04" "demo";
+/* The metadata: startAt, lastFrame and playedOn, by where their keys and texts stand. */
+static const char TEXTS[] = "startAt2001-12-03T12:00:00ZlastFrameplayedOndemo";
+static const slp_entry ENTRIES[] = {
+	{ SLP_ENTRY_TEXT, 0, 7, 7, 20 },
+	{ SLP_ENTRY_NUMBER, 27, 9, (uint32_t)-64, 0 },
+	{ SLP_ENTRY_TEXT, 36, 8, 44, 4 },
+};
+enum { ENTRY_COUNT = sizeof ENTRIES / sizeof *ENTRIES, BODY = 256 };
 
 static uint32_t bits(float value)
 {
@@ -164,7 +167,7 @@ static int save(const char *path, const uint8_t *bytes, size_t len)
 }
 
 /* On standard error where the replay itself is on standard output. */
-static void report(const char *path, size_t len, size_t replaced_frames, slp_walked w)
+static void report(const char *path, size_t len, size_t replaced_frames, size_t metadata, slp_walked w)
 {
 	int standard = strcmp(path, "-") == 0;
 	FILE *to = standard ? stderr : stdout;
@@ -174,7 +177,7 @@ static void report(const char *path, size_t len, size_t replaced_frames, slp_wal
 	fprintf(to, "  frames    %d, of which a rollback replaced %zu\n", FRAMES, replaced_frames);
 	fprintf(to, "  items     a laser, in %d frames\n", ITEM_ROWS);
 	fprintf(to, "  end       one, with placements\n");
-	fprintf(to, "  metadata  %zu bytes\n", sizeof METADATA - 1);
+	fprintf(to, "  metadata  %zu bytes\n", metadata);
 	fprintf(to, "walked it: %zu events, %zu stray bytes, %s\n", w.events, w.stray, w.whole ? "whole" : "cut");
 }
 
@@ -185,7 +188,13 @@ int write_demo(const char *path)
 	fill(&c);
 	slp_game g = game_of();
 	slp_stores s = stores_of(&c);
-	slp_bytes block = { c.block, BLOCK }, none = { NULL, 0 }, metadata = { METADATA, sizeof METADATA - 1 };
+	uint8_t body[BODY];
+	slp_written m = slp_write_map(body, BODY, ENTRIES, SLP_CELLS(ENTRY_COUNT), (const uint8_t *)TEXTS, sizeof TEXTS - 1, ENTRY_COUNT);
+	if (m.refused) {
+		complain("demo", "refused %u: %s", m.refused, refusal_words(m.refused));
+		return FAILED;
+	}
+	slp_bytes block = { c.block, BLOCK }, none = { NULL, 0 }, metadata = { body, m.len };
 	slp_written w = slp_write_game(out, ROOM, &g, &s, block, none, metadata);
 	if (w.refused) {
 		complain("demo", "refused %u: %s", w.refused, refusal_words(w.refused));
@@ -197,6 +206,6 @@ int write_demo(const char *path)
 		return FAILED;
 	}
 	slp_walked k = slp_walk(out, w.len);
-	report(path, w.len, replaced(&c), k);
+	report(path, w.len, replaced(&c), m.len, k);
 	return k.refused || !k.whole ? FAILED : WELL;
 }

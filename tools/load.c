@@ -11,14 +11,15 @@
 /* Signature and length; and how much is read at a time. */
 enum { HEAD = 15, SLICE = 1 << 20 };
 
-/* How far a replay matters: to the end of its event data, as its head says; to its own end where the length was never filled in. */
-static size_t wanted(const content *c)
+/* How far a replay matters: to the end of its event data, as its head says, and so many bytes more; to its own end where the length was never
+ * filled in. */
+static size_t wanted(const content *c, size_t more)
 {
 	if (c->len < HEAD)
 		return HEAD;
 	if (slp_walk(c->bytes, HEAD).refused == SLP_NOT_A_REPLAY)
 		return HEAD;
-	return unfilled(c->bytes, c->len) ? SIZE_MAX : HEAD + declared_length(c->bytes);
+	return unfilled(c->bytes, c->len) ? SIZE_MAX : HEAD + declared_length(c->bytes) + more;
 }
 
 /* Room for one more slice. */
@@ -34,10 +35,10 @@ static int grow(content *c, size_t *room)
 	return 0;
 }
 
-static int read_all(int fd, content *c)
+static int read_all(int fd, size_t more, content *c)
 {
 	size_t room = 0, end;
-	while ((end = wanted(c)) > c->len) {
+	while ((end = wanted(c, more)) > c->len) {
 		int wrong = grow(c, &room);
 		if (wrong)
 			return wrong;
@@ -55,13 +56,13 @@ static int read_all(int fd, content *c)
 	return 0;
 }
 
-int load(const char *path, content *c)
+int load_more(const char *path, size_t more, content *c)
 {
 	*c = (content){ NULL, 0 };
 	int standard = strcmp(path, "-") == 0, fd = standard ? STDIN_FILENO : open(path, O_RDONLY | O_CLOEXEC);
 	if (fd < 0)
 		return errno;
-	int wrong = read_all(fd, c);
+	int wrong = read_all(fd, more, c);
 	if (!standard)
 		close(fd);
 	if (wrong) {
@@ -69,6 +70,11 @@ int load(const char *path, content *c)
 		*c = (content){ NULL, 0 };
 	}
 	return wrong;
+}
+
+int load(const char *path, content *c)
+{
+	return load_more(path, 0, c);
 }
 
 uint64_t total_size(char **paths, int count)

@@ -1,4 +1,4 @@
-/* slp: walks Slippi replays, lists their events, writes a small one, says how much room to reserve. */
+/* slp: walks Slippi replays, lists their events, shows their metadata, writes a small one, says how much room to reserve. */
 #include <errno.h>
 #include <stdio.h>
 #include <string.h>
@@ -11,6 +11,7 @@ static const char HELP[] =
 	"  slp walk FILE..     a line for each replay: EVENTS STRAY whole|cut, or refused NUMBER OFFSET;\n"
 	"                      with several files after 'FILE: '\n"
 	"  slp events FILE     how many events of each code a replay has, and their bytes\n"
+	"  slp meta FILE       the metadata of a replay: its map, an entry a line, maps inside it further in\n"
 	"  slp demo FILE       writes a small game and walks it; FILE must not exist yet\n"
 	"  slp room OPTION..   how many bytes to reserve for a replay before its match is known\n"
 	"  slp help            this text (also --help, -h)\n"
@@ -138,6 +139,8 @@ static int run(const arguments *a)
 		return count ? walk_files(files, count, a->progress) : wrong_usage("walk needs a file", "");
 	if (strcmp(command, "events") == 0)
 		return count == 1 ? show_events(files[0], a->progress) : wrong_usage("events needs one file", "");
+	if (strcmp(command, "meta") == 0)
+		return count == 1 ? show_metadata(files[0]) : wrong_usage("meta needs one file", "");
 	if (strcmp(command, "demo") == 0)
 		return count == 1 ? write_demo(files[0]) : wrong_usage("demo needs one file", "");
 	return wrong_usage("unknown command", command);

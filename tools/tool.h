@@ -37,6 +37,8 @@ typedef struct {
 /* A replay up to the end of its event data, in memory to be freed; after it nothing changes what the reader says. What is no replay is not
  * read on. 0, or an errno. */
 int load(const char *path, content *c);
+/* The same, and what stands after its event data, up to `more` bytes. */
+int load_more(const char *path, size_t more, content *c);
 /* How many bytes files have, as far as that is known before reading. */
 uint64_t total_size(char **paths, int count);
 
@@ -54,6 +56,7 @@ void progress_clear(void);
 
 int walk_files(char **paths, int count, int progress);
 int show_events(const char *path, int progress);
+int show_metadata(const char *path);
 int write_demo(const char *path);
 
 /* ---- room.c */

@@ -24,11 +24,15 @@ static const char *const REFUSALS[] = {
 	[SLP_BAD_TABLE] = "the table of payload sizes is absent, not whole, or damaged",
 	[SLP_UNKNOWN_EVENT] = "an event whose code is not in the table of payload sizes",
 	[SLP_BAD_PLACE] = "an event that runs past the end of the event data",
+	[SLP_TOO_DEEP] = "a map more than 8 deep in the metadata",
+	[SLP_LONG_TEXT] = "a key or text of over 255 bytes in the metadata",
+	[SLP_REPEATED_KEY] = "a key twice in one map of the metadata",
+	[SLP_BAD_BODY] = "metadata that is no map of texts, numbers and maps",
 };
 
 const char *refusal_words(unsigned number)
 {
-	return number < sizeof REFUSALS / sizeof *REFUSALS ? REFUSALS[number] : "for a reason that is not known here";
+	return number < sizeof REFUSALS / sizeof *REFUSALS && REFUSALS[number] ? REFUSALS[number] : "for a reason that is not known here";
 }
 
 const char *event_name(uint8_t code)

@@ -16,6 +16,9 @@ slp_written real_slp_write(uint8_t *out, size_t out_len, slp_game game, SLP_STOR
 slp_reserved real_slp_room(slp_plan plan);
 slp_appended real_slp_write_frames(uint8_t *out, size_t out_len, size_t place, slp_frames frames, SLP_STORE_PARAMETERS, size_t a, size_t b);
 slp_appended real_slp_write_frame(uint8_t *out, size_t out_len, size_t place, slp_frames frames, SLP_STORE_PARAMETERS, size_t i);
+slp_written real_slp_write_map(uint8_t *out, size_t out_len, const slp_entry *entries, size_t cells, const uint8_t *texts, size_t texts_len,
+                               size_t count);
+slp_map_read real_slp_read_map(const uint8_t *body, size_t body_len, slp_entry *entries, size_t cells);
 slp_frame_answer real_slp_frame_row(slp_frames frames, SLP_STORE_PARAMETERS, size_t index);
 slp_post_answer real_slp_post_row(slp_frames frames, SLP_STORE_PARAMETERS, size_t slot, size_t index);
 slp_run real_slp_rows(uint32_t *out, size_t out_len, slp_frames frames, SLP_STORE_PARAMETERS, uint8_t family, size_t slot, size_t from, size_t to);
@@ -268,6 +271,55 @@ slp_appended slp_write_frame(uint8_t *out, size_t out_len, size_t place, slp_fra
 	if (faulty("frame-far") && i == SIZE_MAX)
 		return (slp_appended){ 12, 0 };
 	return real_slp_write_frame(out, out_len, place, frames, STORES, i);
+}
+
+
+/* A duplicate is looked for over all maps, as far as two entries go. */
+static int repeats_anywhere(const slp_entry *e, size_t n, const uint8_t *texts)
+{
+	for (size_t i = 1; i < n; i++)
+		if (e[i].key_len == e[0].key_len && memcmp(texts + e[i].key, texts + e[0].key, e[0].key_len) == 0)
+			return 1;
+	return 0;
+}
+
+slp_written slp_write_map(uint8_t *out, size_t out_len, const slp_entry *entries, size_t cells, const uint8_t *texts, size_t texts_len,
+                          size_t count)
+{
+	slp_written w = real_slp_write_map(out, out_len, entries, cells, texts, texts_len, count);
+	if (faulty("map-twice") && !w.refused && repeats_anywhere(entries, cells / 5, texts))
+		w = (slp_written){ SLP_REPEATED_KEY, 0 };
+	if (faulty("map-len") && w.len > 300)
+		w.len--;
+	if (faulty("map-byte") && w.len > 40)
+		out[40] ^= 1;
+	if (faulty("map-beyond") && !w.refused && w.len < out_len)
+		out[w.len] ^= 1;
+	if (faulty("map-refused") && w.refused && out_len)
+		out[0] ^= 1;
+	if (faulty("map-number"))
+		w.refused = w.refused == SLP_REPEATED_KEY ? SLP_BAD_BODY : w.refused;
+	if (faulty("map-input") && texts_len)
+		spoil(texts);
+	return w;
+}
+
+slp_map_read slp_read_map(const uint8_t *body, size_t body_len, slp_entry *entries, size_t cells)
+{
+	slp_map_read r = real_slp_read_map(body, body_len, entries, cells);
+	if (faulty("read-place") && r.place > 20)
+		r.place++;
+	if (faulty("read-count") && r.entries > r.count)
+		r.count = r.entries;
+	if (faulty("read-number"))
+		r.refused = r.refused == SLP_LONG_TEXT ? SLP_BAD_BODY : r.refused;
+	if (faulty("read-refused") && r.refused == SLP_SHORT_OUTPUT && cells)
+		entries[0].kind ^= 1;
+	if (faulty("read-entry") && r.entries > 10)
+		entries[9].key++;
+	if (faulty("read-beyond") && !r.refused && cells / 5 > r.entries)
+		entries[r.entries].len ^= 1;
+	return r;
 }
 
 slp_frame_answer slp_frame_row(slp_frames frames, SLP_STORE_PARAMETERS, size_t index)

@@ -71,6 +71,19 @@ static void append_run(void)
 	printf("one byte less: refused %u\n", slp_write_frame(out, 93, 1, game.frames, SLP_STORES(&stores), 0).refused);
 }
 
+/* ---- the metadata map */
+
+static void write_and_read_map(void)
+{
+	const uint8_t texts[] = "lastFrameplayedOndolphin";
+	slp_entry entries[2] = { { SLP_ENTRY_NUMBER, 0, 9, 1234, 0 }, { SLP_ENTRY_TEXT, 9, 8, 17, 7 } };
+	uint8_t body[64];
+	slp_written m = slp_write_map(body, sizeof body, entries, SLP_CELLS(2), texts, 24, 2);    // m.len is 36
+	slp_entry back[8];
+	slp_map_read r = slp_read_map(body, m.len, back, SLP_CELLS(8));    // r.count is 2, back[0].key is 2
+	printf("map of %zu bytes: %zu entries, the first key at %u\n", m.len, r.count, back[0].key);
+}
+
 /* ---- rows */
 
 static void show_frame(slp_game game, slp_stores stores)
@@ -142,6 +155,7 @@ int main(void)
 	write_and_read();
 	reserve();
 	append_run();
+	write_and_read_map();
 	show_rows();
 	return 0;
 }

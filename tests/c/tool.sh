@@ -170,6 +170,41 @@ run room --frames
 run room game.slp
 run walk --frames=1 game.slp
 
+# ---- meta
+guarded meta game.slp
+from game.slp meta -
+run meta
+run meta a b
+run meta cut.slp
+run meta unfilled.slp
+run meta tail.slp
+run meta unknown.slp
+run meta signature.slp
+run meta longer.slp
+run meta missing.slp
+run meta directory
+from "$stored" meta -
+# Other tails behind the same events: tail NAME BYTES, as printf takes them.
+tail() {
+	head -c 22219 game.slp >"$1"
+	printf "$2" >>"$1"
+}
+key='U\010metadata{'
+tail nested.slp "$key"'U\001a{U\001b{}U\001c{U\000SU\002\042\377U\001nl\200\000\000\000}}U\001zSU\000}}'
+guarded meta nested.slp
+tail none.slp "$key"'}}'
+run meta none.slp
+tail twice.slp "$key"'U\001al\000\000\000\000U\001al\000\000\000\000}}'
+run meta twice.slp
+tail long.slp "$key"'U\001aSI\001\000}}'
+run meta long.slp
+tail other.slp "$key"'U\001aT}}'
+run meta other.slp
+tail open.slp "$key"'U\001al\000\000\000\000}'
+run meta open.slp
+tail nothing.slp ''
+run meta nothing.slp
+
 # ---- progress
 run --progress=never walk game.slp
 run --progress=auto walk game.slp

@@ -4,6 +4,7 @@ pub mod appender;
 pub mod columns;
 pub mod frame_rows;
 pub mod mask;
+pub mod metadata;
 pub mod reader;
 pub mod reserve;
 pub mod runs;

@@ -3,6 +3,7 @@
 //!     compare games COUNT SEED..   the worked cases, large games, frames that stop being alike, and so many generated games of each seed
 //!     compare first COUNT SEED     generated games and then frames that stop being alike, until the first difference, which it says;
 //!                                  ends with 1 if there is none
+//!     compare maps COUNT SEED..    so many generated metadata maps of each seed
 //!     compare refusals             what the Rust does with inputs that are refused here, as a table
 //!     compare vectors DIR          stored vectors
 //!     compare wrong DIR            edits a copy of peppi at DIR into wrong writers, switched on by SLP_WRONG; says their numbers
@@ -10,6 +11,7 @@
 mod cases;
 mod check;
 mod counts;
+mod maps;
 mod original;
 mod refusals;
 mod rows;
@@ -34,10 +36,13 @@ fn main() -> ExitCode {
 	let done = match words[..] {
 		["games", count, ref seeds @ ..] => compare(number(count) as usize, seeds),
 		["first", count, seed] => first(number(count) as usize, number(seed)),
+		["maps", count, ref seeds @ ..] => {
+			maps::compare(number(count) as usize, &seeds.iter().map(|seed| number(seed)).collect::<Vec<_>>())
+		}
 		["refusals"] => refusals::table(),
 		["vectors", dir] => vectors::write(dir),
 		["wrong", dir] => wrong::edit(dir),
-		_ => Err("games COUNT SEED.. | first COUNT SEED | refusals | vectors DIR | wrong DIR".into()),
+		_ => Err("games COUNT SEED.. | maps COUNT SEED.. | first COUNT SEED | refusals | vectors DIR | wrong DIR".into()),
 	};
 	match done {
 		Ok(()) => ExitCode::SUCCESS,

@@ -1,7 +1,8 @@
 //! Slippi replays, written and read: safe calls to `libslp.a`.
 //!
-//! Every call takes every input, allocates nothing and answers with a refusal number (1 to 17, [`refusal_words`] says why) or its result. A
-//! refused call changes no byte of the slices that are lent to it. Set `SLP_LIB_DIR` to the directory of `libslp.a` when you build.
+//! Every call takes every input, allocates nothing ([`write_map`] and [`read_map`] do, for a [`Map`] and its entries) and answers with a refusal
+//! number ([`refusal_words`] says why) or its result. A refused call changes no byte of the slices that are lent to it. Set `SLP_LIB_DIR` to the
+//! directory of `libslp.a` when you build.
 //!
 //! ```
 //! // A game of version 0.1.0 without frames and without an end: the start block alone.
@@ -34,6 +35,7 @@ mod raw;
 mod append;
 pub mod columns;
 mod masks;
+mod metadata;
 mod reader;
 mod room;
 pub mod rows;
@@ -43,6 +45,7 @@ pub use append::{write_frame, write_frames};
 pub use columns::Family;
 pub use game::*;
 pub use masks::{rollbacks, scratch_len, Rollbacks};
+pub use metadata::{read_entries, read_map, write_entries, write_map, BadBody, Entries, Map, Value, MAX_BODY};
 pub use plan::Plan;
 pub use reader::{first_place, step_at, walk, Refused, Step, Walked};
 pub use refusals::refusal_words;

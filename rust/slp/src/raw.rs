@@ -47,6 +47,14 @@ pub struct Appended {
 }
 
 #[repr(C)]
+pub struct MapRead {
+	pub refused: u8,
+	pub place: usize,
+	pub count: usize,
+	pub entries: usize,
+}
+
+#[repr(C)]
 pub struct Answer<T> {
 	pub refused: u8,
 	pub row: T,
@@ -78,6 +86,18 @@ extern "C" {
 	pub fn slp_walk(file: *const u8, file_len: usize) -> Walked;
 
 	pub fn slp_room(plan: Plan) -> Reserved;
+
+	pub fn slp_write_map(
+		out: *mut u8,
+		out_len: usize,
+		entries: *const u32,
+		cells: usize,
+		texts: *const u8,
+		texts_len: usize,
+		count: usize,
+	) -> Written;
+
+	pub fn slp_read_map(body: *const u8, body_len: usize, entries: *mut u32, cells: usize) -> MapRead;
 
 	pub fn slp_rollbacks(
 		ids: *const u32,

@@ -1,7 +1,7 @@
 //! Refusals in words.
 
-/// The words of each refusal, by its number; the same as those of the tool `slp`.
-const WORDS: [&str; 18] = [
+/// The words of each refusal, by its number; the same as those of the tool `slp`. Numbers that no call gives have none.
+const WORDS: [&str; 24] = [
 	"accepted",
 	"the version is above 3.18.0",
 	"a count exceeds its maximum",
@@ -20,6 +20,12 @@ const WORDS: [&str; 18] = [
 	"the table of payload sizes is absent, not whole, or damaged",
 	"an event whose code is not in the table of payload sizes",
 	"an event that runs past the end of the event data",
+	"",
+	"",
+	"a map more than 8 deep in the metadata",
+	"a key or text of over 255 bytes in the metadata",
+	"a key twice in one map of the metadata",
+	"metadata that is no map of texts, numbers and maps",
 ];
 
 /// Why a call was refused with this number, in words.
@@ -28,5 +34,5 @@ const WORDS: [&str; 18] = [
 /// assert_eq!(slp::refusal_words(8), "the start block is too short for the version, or over 65,535 bytes");
 /// ```
 pub fn refusal_words(number: u8) -> &'static str {
-	WORDS.get(usize::from(number)).copied().unwrap_or("for a reason that is not known here")
+	WORDS.get(usize::from(number)).copied().filter(|words| !words.is_empty()).unwrap_or("for a reason that is not known here")
 }

@@ -11,6 +11,9 @@ _Static_assert(sizeof(slp_walked) == 40 && offsetof(slp_walked, offset) == 8 && 
 _Static_assert(sizeof(slp_written) == 16 && offsetof(slp_written, len) == 8, "slp_written");
 _Static_assert(sizeof(slp_appended) == 16 && offsetof(slp_appended, end) == 8, "slp_appended");
 
+_Static_assert(sizeof(slp_entry) == 20 && offsetof(slp_entry, value) == 12 && SLP_CELLS(3) == 15, "slp_entry");
+_Static_assert(sizeof(slp_map_read) == 32 && offsetof(slp_map_read, place) == 8 && offsetof(slp_map_read, entries) == 24, "slp_map_read");
+
 _Static_assert(sizeof(slp_version) == 3, "slp_version");
 _Static_assert(sizeof(slp_counts) == 40, "slp_counts");
 _Static_assert(sizeof(slp_port_column) == 24 && offsetof(slp_port_column, leader_presence) == 8, "slp_port_column");
@@ -36,7 +39,7 @@ _Static_assert(sizeof(slp_data) == 420 && sizeof(slp_port_data) == 844 && sizeof
                offsetof(slp_frame, start) == 3392, "slp_frame");
 _Static_assert(sizeof(slp_frame_answer) == 3744 && sizeof(slp_pre_answer) == 204 && sizeof(slp_item_answer) == 180, "answers");
 
-_Static_assert(SLP_OK == 0 && SLP_SHORT_OUTPUT == 12 && SLP_BAD_PLACE == 17, "refusals");
+_Static_assert(SLP_OK == 0 && SLP_SHORT_OUTPUT == 12 && SLP_BAD_PLACE == 17 && SLP_TOO_DEEP == 20 && SLP_BAD_BODY == 23, "refusals");
 _Static_assert(SLP_LAST_FRAME_ID - SLP_FIRST_FRAME_ID + 1 == SLP_MAX_FRAMES, "frame ids");
 _Static_assert(SLP_EVENT_MESSAGE_SPLITTER == 16 && SLP_EVENT_PAYLOADS == 53 && SLP_EVENT_STADIUM_TRANSFORMATION == 65, "events");
 

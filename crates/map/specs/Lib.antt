@@ -1,0 +1,5 @@
+pub mod Inner
+pub mod Keys
+pub mod Map
+pub mod Rows
+pub mod Write

@@ -1,0 +1,16 @@
+-- What the theorems about the metadata map's writer and reader speak of.
+-- Assumes nothing.
+use Prim.Native.Nat.{ℕ, _^_, _≤_, _<_}
+use mathlib.Core.List.{List}
+use mathlib.Core.Path.{_≡_}
+use lib.ListN.{length, getD}
+
+-- each element is a number of 32 bits, as in every lent store of cells
+abbrev pub Words : List ℕ → Type 0
+Words rows = (i : ℕ) → getD rows i 0 < 2 ^ 32
+
+-- two bodies begin with the same s bytes
+pub record Agree (b c : List ℕ) (s : ℕ) : Type 0 where
+  pub in-first : s ≤ length b
+  pub in-second : s ≤ length c
+  pub same : (i : ℕ) → i < s → getD b i 0 ≡ getD c i 0

@@ -1,0 +1,10 @@
+pub mod Answers
+pub mod Fills
+pub mod Going
+pub mod KeyRuns
+pub mod Only
+pub mod Passing
+pub mod Places
+pub mod Sizes
+pub mod Sound
+pub mod Steps

@@ -1,0 +1,14 @@
+-- `map_reader::get::byte_at` meets its contract.
+-- Assumes nothing.
+use mathlib.Core.Path.{sym}
+use native.Mathlib.Omega.{arith}
+use borrow.Author.Needs.{needs}
+use lib.ListN.{List·getD-eq-default}
+use Rattle.map_reader.proofs.get.byte_at.Statement.{statement}
+use Rattle.map_reader.proofs.get.byte_at.Tie as tie
+
+returns-2 : tie.Need-returns-2
+returns-2 c = (sym (List·getD-eq-default (c .before .args .b .now) 0 (c .if1 .left)), λ z. absurd (omega arith))
+
+pub byte-at-spec : {M : Type 1} → statement M
+byte-at-spec = tie.close (tie.spec (λ c. search needs) (λ c. search needs) returns-2)

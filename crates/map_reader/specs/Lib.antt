@@ -1,0 +1,4 @@
+pub mod Answer
+pub mod Back
+pub mod Inner
+pub mod Read

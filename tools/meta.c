@@ -1,0 +1,121 @@
+/* slp meta: the metadata of a replay as an indented map. */
+#include <stdio.h>
+#include <stdlib.h>
+#include <string.h>
+
+#include "tool.h"
+
+/* What stands before the body, and after it: the braces that close the map and the file. A longer tail than that of the longest body is none. */
+static const uint8_t KEY[] = { 0x55, 8, 'm', 'e', 't', 'a', 'd', 'a', 't', 'a', 0x7b };
+enum { BRACES = 2, LONGEST_TAIL = sizeof KEY + SLP_MAX_METADATA + BRACES };
+
+/* An entry takes at least four bytes of a body: a key's two, and two braces. */
+enum { LEAST = 4 };
+
+/* A text on one line: bytes that are no printable ASCII, quotes and backslashes as \xNN. */
+static void print_text(const uint8_t *text, size_t len)
+{
+	putchar('"');
+	for (size_t i = 0; i < len; i++)
+		if (text[i] < 0x20 || text[i] > 0x7e || text[i] == '"' || text[i] == '\\')
+			printf("\\x%02x", text[i]);
+		else
+			putchar(text[i]);
+	putchar('"');
+}
+
+/* One entry; its maps' entries follow it. */
+static void print_entry(const uint8_t *body, const slp_entry *e, int depth)
+{
+	printf("%*s", 2 * depth, "");
+	print_text(body + e->key, e->key_len);
+	fputs(": ", stdout);
+	if (e->kind == SLP_ENTRY_TEXT)
+		print_text(body + e->value, e->len);
+	else if (e->kind == SLP_ENTRY_NUMBER)
+		printf("%ld", (long)(int32_t)e->value);
+	else
+		printf("%s", e->value ? "{" : "{}");
+	putchar('\n');
+}
+
+/* All entries, by how many each open map has left. */
+static void print_map(const uint8_t *body, const slp_entry *entries, slp_map_read r)
+{
+	size_t left[10] = { r.count };
+	int depth = 0;
+	for (size_t i = 0; i < r.entries; i++) {
+		left[depth]--;
+		print_entry(body, &entries[i], depth);
+		if (entries[i].kind == SLP_ENTRY_MAP && entries[i].value)
+			left[++depth] = entries[i].value;
+		while (depth > 0 && left[depth] == 0)
+			printf("%*s}\n", 2 * --depth, "");
+	}
+}
+
+static int print_body(const char *name, const uint8_t *body, size_t len, size_t offset)
+{
+	size_t most = len / LEAST + 1;
+	slp_entry *entries = malloc(most * sizeof *entries);
+	if (!entries) {
+		complain(name, "no memory");
+		return FAILED;
+	}
+	slp_map_read r = slp_read_map(body, len, entries, SLP_CELLS(most));
+	if (r.refused)
+		complain_refused(name, r.refused, offset + r.place);
+	else
+		print_map(body, entries, r);
+	free(entries);
+	return r.refused ? FAILED : WELL;
+}
+
+/* The tail begins where the event data ends: one brace, or the key, a body and two braces. */
+static int print_tail(const char *name, const content *c, size_t at)
+{
+	const uint8_t *tail = c->bytes + at;
+	size_t len = c->len - at;
+	if (len == 1 && tail[0] == 0x7d) {
+		complain(name, "has no metadata");
+		return FAILED;
+	}
+	if (len > LONGEST_TAIL) {
+		complain(name, "more than %d bytes after the event data, which no metadata takes", (int)LONGEST_TAIL);
+		return FAILED;
+	}
+	if (len < sizeof KEY + BRACES || memcmp(tail, KEY, sizeof KEY) != 0 || tail[len - 2] != 0x7d || tail[len - 1] != 0x7d) {
+		complain(name, "what stands after the event data, from byte %zu on, is no metadata", at);
+		return FAILED;
+	}
+	return print_body(name, tail + sizeof KEY, len - sizeof KEY - BRACES, at + sizeof KEY);
+}
+
+static int print_metadata(const char *name, const content *c)
+{
+	slp_walked w = slp_walk(c->bytes, c->len);
+	if (w.refused != SLP_NOT_A_REPLAY)
+		complain_unfilled(name, c->bytes, c->len);
+	if (w.refused) {
+		complain_refused(name, w.refused, w.offset);
+		return FAILED;
+	}
+	if (!w.whole) {
+		complain_cut(name, c->bytes, c->len);
+		return FAILED;
+	}
+	return print_tail(name, c, 15 + declared_length(c->bytes));
+}
+
+int show_metadata(const char *path)
+{
+	content c;
+	int wrong = load_more(path, LONGEST_TAIL + 1, &c);
+	if (wrong) {
+		complain(input_name(path), "%s", strerror(wrong));
+		return FAILED;
+	}
+	int status = print_metadata(input_name(path), &c);
+	free(c.bytes);
+	return status;
+}
