@@ -100,7 +100,7 @@ impl Work {
 	}
 
 	pub fn moves_file(&self, what: &str) -> bool {
-		!what.starts_with("mask")
+		!what.starts_with("mask") && !what.starts_with("run")
 	}
 
 	pub fn run(&mut self, what: &str) {
@@ -117,10 +117,10 @@ impl Work {
 			"write: copy of the bytes" => self.fixed.copy_from_slice(black_box(&self.file)),
 			// in the midst of the game; and all that is judged before one
 			"run of 1,000 frames: libslp" => {
-				drop(black_box(slp::write_frames(&self.case.game.frames, &self.case.stores(), &mut self.fixed, 0, 500..1_500)))
+				_ = black_box(slp::write_frames(&self.case.game.frames, &self.case.stores(), &mut self.fixed, 0, 500..1_500))
 			}
 			"run of no frames: libslp" => {
-				drop(black_box(slp::write_frames(&self.case.game.frames, &self.case.stores(), &mut self.fixed, 0, 500..500)))
+				_ = black_box(slp::write_frames(&self.case.game.frames, &self.case.stores(), &mut self.fixed, 0, 500..500))
 			}
 			"walk: libslp" => {
 				black_box(walk(&self.file));
