@@ -154,15 +154,14 @@ static void every_set(void)
 /* Ranges, slots and families that are far away, and a range that is reversed. */
 static void far_places(void)
 {
-	static const size_t far[] = { 9, 10, 16, 1u << 31, UINT32_MAX, (size_t)UINT32_MAX + 1, SIZE_MAX / 2 + 1, SIZE_MAX };
 	plan p = rich_plan();
 	made m = make_game(&p);
 	for (uint8_t number = 0; number < 10; number++)
-		for (size_t i = 0; i < sizeof far / sizeof *far; i++) {
-			check_run(&m.in, number, 0, 0, far[i], 400);
-			check_run(&m.in, number, 0, far[i], far[i], 400);
-			check_run(&m.in, number, 0, far[i], 0, 400);
-			check_run(&m.in, number, far[i], 0, 1, 400);
+		for (size_t i = 0; i < FAR_NUMBERS; i++) {
+			check_run(&m.in, number, 0, 0, far_numbers[i], 400);
+			check_run(&m.in, number, 0, far_numbers[i], far_numbers[i], 400);
+			check_run(&m.in, number, 0, far_numbers[i], 0, 400);
+			check_run(&m.in, number, far_numbers[i], 0, 1, 400);
 		}
 	check_run(&m.in, SLP_FAMILY_PRE, 0, 2, 1, 400);
 	unmake(&m);

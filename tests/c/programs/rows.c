@@ -122,14 +122,13 @@ static void every_set(void)
 /* Places that are far away. */
 static void far_places(void)
 {
-	static const size_t far[] = { 9, 10, 16, 1u << 31, UINT32_MAX, (size_t)UINT32_MAX + 1, SIZE_MAX / 2 + 1, SIZE_MAX };
 	plan p = rich_plan();
 	made m = make_game(&p);
 	for (row_kind kind = FRAME_ROW; kind < ROW_KINDS; kind++)
-		for (size_t i = 0; i < sizeof far / sizeof *far; i++) {
-			check_row(&m.in, kind, 0, far[i]);
-			check_row(&m.in, kind, far[i], 0);
-			check_row(&m.in, kind, far[i], far[i]);
+		for (size_t i = 0; i < FAR_NUMBERS; i++) {
+			check_row(&m.in, kind, 0, far_numbers[i]);
+			check_row(&m.in, kind, far_numbers[i], 0);
+			check_row(&m.in, kind, far_numbers[i], far_numbers[i]);
 		}
 	m.in.game.frames.port_count = SIZE_MAX;
 	check_row(&m.in, FRAME_ROW, 0, 0);

@@ -129,22 +129,21 @@ static void empty_runs(void)
 }
 
 /* Numbers that are far away, for either end of the range, one frame and the place. */
-static void far_numbers(void)
+static void far_runs(void)
 {
-	static const size_t far[] = { 9, 10, 1u << 31, UINT32_MAX, (size_t)UINT32_MAX + 1, SIZE_MAX / 2 + 1, SIZE_MAX };
 	plan p = rich_plan();
 	made m = make_game(&p);
 	uint8_t *out = fresh(ROOM);
-	for (size_t i = 0; i < sizeof far / sizeof *far; i++) {
-		for (size_t k = 0; k < sizeof far / sizeof *far; k++)
-			check_run(&m.in, out, ROOM, 0, far[i], far[k]);
-		check_run(&m.in, out, ROOM, 0, 0, far[i]);
-		check_run(&m.in, out, ROOM, 0, far[i], 0);
-		check_run(&m.in, out, ROOM, 0, far[i], ONE_FRAME);
-		check_run(&m.in, out, ROOM, far[i], 0, 1);
-		check_run(&m.in, out, ROOM, far[i], 8, ONE_FRAME);
-		check_run(&m.in, out, ROOM, far[i], far[i], ONE_FRAME);
-		check_run(&m.in, NULL, 0, far[i], 1, 0);
+	for (size_t i = 0; i < FAR_NUMBERS; i++) {
+		for (size_t k = 0; k < FAR_NUMBERS; k++)
+			check_run(&m.in, out, ROOM, 0, far_numbers[i], far_numbers[k]);
+		check_run(&m.in, out, ROOM, 0, 0, far_numbers[i]);
+		check_run(&m.in, out, ROOM, 0, far_numbers[i], 0);
+		check_run(&m.in, out, ROOM, 0, far_numbers[i], ONE_FRAME);
+		check_run(&m.in, out, ROOM, far_numbers[i], 0, 1);
+		check_run(&m.in, out, ROOM, far_numbers[i], 8, ONE_FRAME);
+		check_run(&m.in, out, ROOM, far_numbers[i], far_numbers[i], ONE_FRAME);
+		check_run(&m.in, NULL, 0, far_numbers[i], 1, 0);
 	}
 	free(out);
 	unmake(&m);
@@ -211,7 +210,7 @@ int main(int argc, char **argv)
 	test("games", games);
 	test("every range", ranges);
 	test("empty runs", empty_runs);
-	test("far numbers", far_numbers);
+	test("far numbers", far_runs);
 	test("every set of faults", every_set);
 	test("damaged games", damaged);
 	test("only frames", only_frames);

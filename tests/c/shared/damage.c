@@ -2,6 +2,8 @@
 
 #include "check.h"
 
+const size_t far_numbers[FAR_NUMBERS] = { 9, 10, 16, 1u << 31, UINT32_MAX, (size_t)UINT32_MAX + 1, SIZE_MAX / 2 + 1, SIZE_MAX };
+
 size_t odd_number(size_t near)
 {
 	static const size_t limits[] = {

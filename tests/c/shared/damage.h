@@ -8,6 +8,9 @@
 void damage(made *m);
 /* The fault of one refusal, 1 to 7, in a game of rich_plan: none hides another. */
 void fault_frames(made *m, unsigned number);
+/* Numbers beyond the frames, slots and rows of a game of rich_plan, from near ones on. */
+enum { FAR_NUMBERS = 8 };
+extern const size_t far_numbers[FAR_NUMBERS];
 /* A number near a limit, or any. */
 size_t odd_number(size_t near);
 
