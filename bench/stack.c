@@ -26,6 +26,11 @@ static uint8_t out[1 << 20], file[1 << 20], mask[FRAMES], scratch[FRAMES], zeros
 static size_t file_len;
 static uint32_t cells[MOST_CELLS], ids[FRAMES], offsets[FRAMES + 1], rows[FRAMES * (SLP_POST_COLUMNS + 1)];
 
+/* What slp_read fills, for either game. */
+static slp_space space;
+static uint32_t space_cells[2 * MOST_CELLS];
+static uint8_t space_bytes[1 << 17];
+
 static void smallest(void)
 {
 	game = (slp_game){ .frames = { .version = { 0, 1, 0 } } };
@@ -95,6 +100,8 @@ static void call_pre_of(void) { kept = 1u + slp_pre_of(cells, SLP_PRE_COLUMNS, g
 static void call_post_of(void) { kept = 1u + slp_post_of(cells, SLP_POST_COLUMNS, game.frames.version, 1).state; }
 static void call_columns(void) { kept = 1u + slp_columns(game.frames.version, SLP_FAMILY_POST); }
 static void call_room(void) { kept = slp_room(slp_plan_of(&game, block.len, codes.len, metadata.len)).bytes; }
+static void call_measure(void) { kept = slp_measure(file, file_len).places.block_at; }
+static void call_read(void) { kept = slp_read_game(file, file_len, &space).places.block_at; }
 static void call_first_place(void) { kept = slp_first_place(file, file_len); }
 
 /* A map with eight others inside each other, as deep as it may be. */
@@ -124,6 +131,8 @@ static const struct {
 	{ "slp_write_frame", call_write_frame, 4900 },
 	{ "slp_walk", call_walk, 2800 },
 	{ "slp_step_at", call_step_at, 2800 },
+	{ "slp_measure", call_measure, 6000 },
+	{ "slp_read", call_read, 11000 },
 	{ "slp_write_map", call_write_map, 1900 },
 	{ "slp_read_map", call_read_map, 1800 },
 	{ "slp_rollbacks", call_rollbacks, 256 },
@@ -169,6 +178,12 @@ static size_t measured(size_t i, void (*make)(void))
 		exit(2);
 	}
 	file_len = w.len;
+	slp_lengths lengths = slp_measure(file, file_len).lengths;
+	if (slp_space_cells(&lengths) > sizeof space_cells / 4 || slp_space_bytes(&lengths) > sizeof space_bytes) {
+		fputs("stack: too little room for a game of its own\n", stderr);
+		exit(2);
+	}
+	space = slp_space_in(&lengths, space_cells, space_bytes);
 	kept = 0;
 	size_t bytes = used(CALLS[i].call) - used(nothing);
 	if (!kept) {

@@ -4,7 +4,7 @@
  * Nothing is allocated, nothing is kept between calls, and calls on different memory may run at the same time.
  *
  * A lent slice is a pointer and a count of elements. With a count of 0 the pointer may be NULL. Slices that are written (out, mask,
- * scratch) must not overlap another slice of the same call. Cells must be aligned to four bytes.
+ * scratch, the stores of slp_read) must not overlap another slice of the same call. Cells must be aligned to four bytes.
  *
  * A mark is a byte: 0 is no, everything else is yes. Floats and signed numbers are their bits wherever a field or cell is unsigned.
  */
@@ -48,7 +48,7 @@ enum {
 	SLP_BAD_CODES = 10,
 	/* double end without an end, or, from 2.0, an end's initiator outside -1..3 */
 	SLP_BAD_END = 11,
-	/* output, mask or scratch too short; run of frames: also a place beyond the output */
+	/* output, mask, scratch or a store to be filled too short; run of frames: also a place beyond the output */
 	SLP_SHORT_OUTPUT = 12,
 	/* mask: an id below -123 or above 1,048,452; row: an index not below frames or, for a family's own row, its rows; or a slot that is
 	 * not there; run of frames: a range that is reversed or ends beyond the frames; rows of a run: no such family or slot, or a range that is reversed
@@ -64,6 +64,11 @@ enum {
 	/* reader, at the event: event overruns event data that is present to its declared end; or, judged before 16, a place before the
 	 * table's end or past the event data present */
 	SLP_BAD_PLACE = 17,
+	/* columns back: the first event is no GameStart of at least 4 bytes; or, judged after 1, the event data is cut, an event is out of the
+	 * per-frame order or has a payload of the wrong size, ports do not ascend, a Pre has no Post or a Post no Pre, a record has another frame's
+	 * id, neighbouring frames before 2.2 have one id, a code block is wrong, a port, follower flag or seat type is out of range, there are over
+	 * two ends or unlike ones, or an initiator is outside -1..3 */
+	SLP_BAD_EVENTS = 19,
 	/* metadata map: a map more than 8 deep below the body's own */
 	SLP_TOO_DEEP = 20,
 	/* metadata map: a key or text over 255 bytes */
@@ -505,6 +510,209 @@ static inline slp_written slp_write_game(uint8_t *out, size_t out_len, const slp
 {
 	return slp_write(out, out_len, *game, SLP_STORES(s), template_block.p, template_block.len, codes.p, codes.len, metadata.p,
 	                 metadata.len);
+}
+
+/* ======== columns back from a replay ========
+ *
+ * A saved replay becomes a game with its stores again, as slp_write takes them: open it, change what you like, save it. slp_measure says how long each
+ * store must be, slp_read fills them. What was written comes back: the cells of present rows, zeros for absent ones; presence bits for every slot,
+ * never in the empty form, spare bits 0; a port column for each port whose leader or follower is ever there, ports ascending. Before 2.2, where there is
+ * no FrameStart, a frame begins where the id changes.
+ */
+
+/* What stands behind the event data of a replay: one brace, the metadata, or something else, which is left alone and cannot be saved again. */
+enum { SLP_FILE_TAIL_NONE = 0, SLP_FILE_TAIL_METADATA = 1, SLP_FILE_TAIL_ODD = 2 };
+
+/* Where the bytes that are not copied stand in the file. */
+typedef struct {
+	size_t block_at, block_len;         /* the start block: the template for saving again */
+	uint8_t tail;                       /* SLP_FILE_TAIL_NONE, SLP_FILE_TAIL_METADATA or SLP_FILE_TAIL_ODD */
+	size_t metadata_at, metadata_len;   /* the metadata's body, where the tail is SLP_FILE_TAIL_METADATA; else 0 */
+} slp_places;
+
+/* How many elements of each store slp_read fills: cells, and bytes of the last two. */
+typedef struct {
+	size_t ids, starts, pres, posts, ends, items, fods, whispys, stadiums;
+	size_t item_offsets, fod_offsets, whispy_offsets, stadium_offsets;
+	size_t presence, codes;
+} slp_lengths;
+
+typedef struct {
+	uint8_t refused;        /* 0, or 14 to 17, 19, 1 or 2; then all that follows is 0, but for the offset */
+	size_t offset;          /* the file offset that 14 to 17 name; else 0 */
+	slp_frames frames;      /* as slp_read gives them */
+	uint8_t codes_given;    /* 1 if the version is 3.3 or newer and the payload table lists GeckoCodes, else 0 */
+	uint32_t actual_size;   /* bytes of the codes before they were padded */
+	slp_lengths lengths;
+	slp_places places;
+} slp_measured;
+
+/* What slp_read needs for a replay. Refusals, in this order: 14 to 17 over the whole walk; 19 if the first event is no GameStart of at least 4 bytes; 1;
+ * 19 for the rest of its reasons; 2.
+ *
+ *     slp_measured m = slp_measure(file, len);
+ *     if (m.refused) printf("refused %u at %zu\n", m.refused, m.offset);
+ *     else printf("%zu frames, %zu ports\n", m.frames.counts.frames, m.frames.port_count);
+ */
+slp_measured slp_measure(const uint8_t *file, size_t file_len);
+
+typedef struct {
+	uint8_t refused;    /* as slp_measure, and last 12 for a store that is too short */
+	size_t offset;      /* as slp_measure */
+	slp_game game;      /* all 0 on a refusal */
+	slp_places places;
+} slp_opened;
+
+/* The parameters of the stores that are filled: those of slp_write, and the codes. */
+#define SLP_SPACE_PARAMETERS \
+	uint32_t *ids, size_t ids_len, uint32_t *starts, size_t starts_len, uint32_t *pres, size_t pres_len, uint32_t *posts, size_t posts_len, \
+	uint32_t *ends, size_t ends_len, uint32_t *items, size_t items_len, uint32_t *fods, size_t fods_len, uint32_t *whispys, size_t whispys_len, \
+	uint32_t *stadiums, size_t stadiums_len, uint32_t *item_offsets, size_t item_offsets_len, uint32_t *fod_offsets, size_t fod_offsets_len, \
+	uint32_t *whispy_offsets, size_t whispy_offsets_len, uint32_t *stadium_offsets, size_t stadium_offsets_len, \
+	uint8_t *presence, size_t presence_len, uint8_t *codes, size_t codes_len
+
+/* The game of a replay, and its columns at the start of each store; what lies past them stays. The start is read from the start block: a seat of type 3
+ * is empty, a text ends at its first zero or its limit, a flag that is not 0 is 1, teams are given where the game has teams, and the match id's tail is
+ * SLP_TAIL_KEPT. Of an end without an initiator (before 2.0) that is 255; a placement of 255 comes back as none. slp_read_game below takes the stores as a
+ * struct.
+ */
+slp_opened slp_read(const uint8_t *file, size_t file_len, SLP_SPACE_PARAMETERS);
+
+/* The same as one struct, for slp_read_game and for SLP_SPACE below. */
+typedef struct {
+	uint32_t *p;
+	size_t len;
+} slp_cell_space;
+
+typedef struct {
+	uint8_t *p;
+	size_t len;
+} slp_byte_space;
+
+typedef struct {
+	slp_cell_space ids, starts, pres, posts, ends, items, fods, whispys, stadiums;
+	slp_cell_space item_offsets, fod_offsets, whispy_offsets, stadium_offsets;
+	slp_byte_space presence, codes;
+} slp_space;
+
+/* A struct's slices as arguments. */
+#define SLP_SPACE(s) SLP_STORES(s), (s)->codes.p, (s)->codes.len
+
+/* How many cells, and how many bytes, all stores take together. */
+static inline size_t slp_space_cells(const slp_lengths *n)
+{
+	return n->ids + n->starts + n->pres + n->posts + n->ends + n->items + n->fods + n->whispys + n->stadiums + n->item_offsets +
+	       n->fod_offsets + n->whispy_offsets + n->stadium_offsets;
+}
+
+static inline size_t slp_space_bytes(const slp_lengths *n)
+{
+	return n->presence + n->codes;
+}
+
+/* The next `len` cells of some memory, which is moved on. */
+static inline slp_cell_space slp_next_cells(uint32_t **cells, size_t len)
+{
+	slp_cell_space s;
+
+	s.p = *cells;
+	s.len = len;
+	if (len)
+		*cells += len;
+	return s;
+}
+
+/* Stores of these lengths, one after another in memory for slp_space_cells cells and slp_space_bytes bytes. */
+static inline slp_space slp_space_in(const slp_lengths *n, uint32_t *cells, uint8_t *bytes)
+{
+	slp_space s;
+
+	s.ids = slp_next_cells(&cells, n->ids);
+	s.starts = slp_next_cells(&cells, n->starts);
+	s.pres = slp_next_cells(&cells, n->pres);
+	s.posts = slp_next_cells(&cells, n->posts);
+	s.ends = slp_next_cells(&cells, n->ends);
+	s.items = slp_next_cells(&cells, n->items);
+	s.fods = slp_next_cells(&cells, n->fods);
+	s.whispys = slp_next_cells(&cells, n->whispys);
+	s.stadiums = slp_next_cells(&cells, n->stadiums);
+	s.item_offsets = slp_next_cells(&cells, n->item_offsets);
+	s.fod_offsets = slp_next_cells(&cells, n->fod_offsets);
+	s.whispy_offsets = slp_next_cells(&cells, n->whispy_offsets);
+	s.stadium_offsets = slp_next_cells(&cells, n->stadium_offsets);
+	s.presence.p = bytes;
+	s.presence.len = n->presence;
+	s.codes.p = n->presence ? bytes + n->presence : bytes;
+	s.codes.len = n->codes;
+	return s;
+}
+
+/* A filled store to be read. */
+static inline slp_cells slp_filled(slp_cell_space s)
+{
+	slp_cells c;
+
+	c.p = s.p;
+	c.len = s.len;
+	return c;
+}
+
+/* Bytes of a file, or of a filled store. */
+static inline slp_bytes slp_part(const uint8_t *from, size_t at, size_t len)
+{
+	slp_bytes b;
+
+	b.p = len ? from + at : from;
+	b.len = len;
+	return b;
+}
+
+/* Filled stores as slp_write_game and the rows take them; they must be as long as slp_measure says. */
+static inline slp_stores slp_stores_in(const slp_space *s)
+{
+	slp_stores t;
+
+	t.ids = slp_filled(s->ids);
+	t.starts = slp_filled(s->starts);
+	t.pres = slp_filled(s->pres);
+	t.posts = slp_filled(s->posts);
+	t.ends = slp_filled(s->ends);
+	t.items = slp_filled(s->items);
+	t.fods = slp_filled(s->fods);
+	t.whispys = slp_filled(s->whispys);
+	t.stadiums = slp_filled(s->stadiums);
+	t.item_offsets = slp_filled(s->item_offsets);
+	t.fod_offsets = slp_filled(s->fod_offsets);
+	t.whispy_offsets = slp_filled(s->whispy_offsets);
+	t.stadium_offsets = slp_filled(s->stadium_offsets);
+	t.presence = slp_part(s->presence.p, 0, s->presence.len);
+	return t;
+}
+
+/* As slp_read.
+ *
+ *     uint32_t *cells = malloc(4 * slp_space_cells(&m.lengths) + 1);
+ *     uint8_t *bytes = malloc(slp_space_bytes(&m.lengths) + 1);
+ *     slp_space space = slp_space_in(&m.lengths, cells, bytes);
+ *     slp_opened o = slp_read_game(file, len, &space);
+ *     slp_stores stores = slp_stores_in(&space);
+ */
+static inline slp_opened slp_read_game(const uint8_t *file, size_t file_len, const slp_space *s)
+{
+	return slp_read(file, file_len, SLP_SPACE(s));
+}
+
+/* The game that was read, saved again: with the old start block as template, the codes and the metadata. A replay that slp_write gave becomes the same
+ * file, byte for byte, if its ports ascend and the seats that were not given have type 3 in its template. An odd tail is lost.
+ *
+ *     slp_written w = slp_save(out, out_len, &o, &space, file);    // out_len is len
+ */
+static inline slp_written slp_save(uint8_t *out, size_t out_len, const slp_opened *o, const slp_space *s, const uint8_t *file)
+{
+	slp_stores stores = slp_stores_in(s);
+
+	return slp_write_game(out, out_len, &o->game, &stores, slp_part(file, o->places.block_at, o->places.block_len),
+	                      slp_part(s->codes.p, 0, s->codes.len), slp_part(file, o->places.metadata_at, o->places.metadata_len));
 }
 
 /* ======== how much room to reserve ======== */

@@ -1,7 +1,7 @@
 #!/bin/sh
 # What is said in several places must be said in the same words: the refusals in docs/API.md and include/slp.h; their short words in the tool and in
-# the Rust crate; the columns in their definition, in the header and in the crate; the test programs and their list; the version of the library and
-# of the crate.
+# the Rust crate; the columns in their definition, in the header, in the crate and in the tool; the test programs and their list; the version of the
+# library and of the crate.
 set -eu
 cd "$(dirname "$0")/.."
 to=target/agree
@@ -46,6 +46,12 @@ awk '/^columns! \{/ { on = 1; next } /^}/ { on = 0 } on && /^\t[a-z_]*:$/ { fami
 	on && !/\/\/\// { for (i = 1; i <= NF; i++) print family, $i }' rust/slp/src/columns.rs | sort -s -k1,1 >$to/crate-columns
 cut -d' ' -f1,2 $to/columns >$to/column-names
 agree 'the columns of layout/specs/Columns.antt and rust/slp' column-names crate-columns
+
+# In the tool a player's columns alone, each by its number and with its name in small letters.
+sed -n 's/^\t\[SLP_\([A-Z0-9_]*\)\] = { "\([a-z0-9_]*\)", .*/\1 \2/p' tools/table.c >$to/tool-columns
+awk '$1 == "PRE" || $1 == "POST" { print $1 "_" $2, tolower($1 "_" $2) }' $to/columns | sort >$to/player-columns
+sort $to/tool-columns >$to/tool-columns-sorted
+agree 'the columns of layout/specs/Columns.antt and tools/table.c' player-columns tool-columns-sorted
 
 for program in tests/c/programs/*.c*; do
 	basename "${program%.*}"

@@ -1,7 +1,5 @@
 /* slp demo: a small game of the newest version, written and walked. */
-#include <errno.h>
 #include <stdio.h>
-#include <stdlib.h>
 #include <string.h>
 
 #include "tool.h"
@@ -9,8 +7,8 @@
 /* Of 64 frames four repeat an earlier id, after a rollback. An item is there in twelve of them. */
 enum { FRAMES = 64, REPEATED_FROM = 40, REPEATED = 4, ITEM_FROM = 20, ITEM_ROWS = 12, SLOTS = 2, ROOM = 65536 };
 
-/* The length of the newest version's start block. */
-enum { BLOCK = 760 };
+/* The length of the newest version's start block, where the type of a seat stands in it, and that of one where nobody sits. */
+enum { BLOCK = 760, SEATS = 4, FIRST_TYPE = 101, BETWEEN_TYPES = 36, NOBODY = 3 };
 
 /* Characters have one number when they are chosen and another in the game. */
 enum { CHOSEN_FOX = 2, CHOSEN_MARTH = 9, FOX = 1, MARTH = 18, FOX_LASER = 0x36, FINAL_DESTINATION = 32, WALKING = 17, STANDING = 14 };
@@ -88,6 +86,8 @@ static void fill(cells *c)
 		fill_item(c, row);
 	for (int i = 0; i <= FRAMES; i++)
 		c->item_offsets[i] = item_offset(i);
+	for (int seat = SLOTS; seat < SEATS; seat++)
+		c->block[FIRST_TYPE + BETWEEN_TYPES * seat] = NOBODY;
 }
 
 static slp_text text(const char *words)
@@ -147,23 +147,6 @@ static size_t replaced(const cells *c)
 	for (int i = 0; i < FRAMES; i++)
 		n += mask[i];
 	return n;
-}
-
-/* A new file, so that no replay is written over; - is standard output. 0, or an errno. */
-static int save(const char *path, const uint8_t *bytes, size_t len)
-{
-	int standard = strcmp(path, "-") == 0;
-	FILE *f = standard ? stdout : fopen(path, "wbx");
-	if (!f)
-		return errno;
-	int wrong = fwrite(bytes, 1, len, f) == len && fflush(f) == 0 ? 0 : errno;
-	if (standard)
-		clearerr(stdout);
-	if (!standard && fclose(f) != 0 && !wrong)
-		wrong = errno;
-	if (!standard && wrong)
-		remove(path);
-	return wrong;
 }
 
 /* On standard error where the replay itself is on standard output. */

@@ -1,4 +1,5 @@
-/* slp: walks Slippi replays, lists their events, shows their metadata, writes a small one, says how much room to reserve. */
+/* slp: walks Slippi replays, lists their events, shows their metadata and frames, writes them again, writes a small one, says how much room to
+ * reserve. */
 #include <errno.h>
 #include <stdio.h>
 #include <string.h>
@@ -12,12 +13,15 @@ static const char HELP[] =
 	"                      with several files after 'FILE: '\n"
 	"  slp events FILE     how many events of each code a replay has, and their bytes\n"
 	"  slp meta FILE       the metadata of a replay: its map, an entry a line, maps inside it further in\n"
+	"  slp table FILE      the frames of a replay as CSV: a line for each frame and player who is in it\n"
+	"  slp resave IN OUT   reads a replay into columns and writes it again; OUT must not exist yet\n"
 	"  slp demo FILE       writes a small game and walks it; FILE must not exist yet\n"
 	"  slp room OPTION..   how many bytes to reserve for a replay before its match is known\n"
 	"  slp help            this text (also --help, -h)\n"
 	"  slp version         the tool's version, and the newest replay version (also --version)\n"
 	"\n"
-	"A FILE of - is standard input, or for demo standard output. After -- nothing is an option.\n"
+	"A FILE or IN of - is standard input; an OUT of -, and for demo a FILE, is standard output. After --\n"
+	"nothing is an option.\n"
 	"\n"
 	"  --progress=WHEN     a bar on standard error: auto (on a terminal, from 64 MB on), always, never\n"
 	"\n"
@@ -37,6 +41,10 @@ static const char HELP[] =
 	"EVENTS counts the whole events after the table of payload sizes, STRAY the bytes after the last of\n"
 	"them; whole means that all declared bytes are there. Reasons in words go to standard error. A length\n"
 	"of zero was never filled in: such a replay is read to its end, and is cut.\n"
+	"\n"
+	"A table has the frame's id, the port (0 to 3), 1 for a follower or 0, and the columns of Pre and Post\n"
+	"that the version has; floats are shown as the shortest number that is the same float. resave says whether\n"
+	"OUT is the same as IN, byte for byte; what stands after the event data and is no metadata is left out.\n"
 	"\n"
 	"Exit status: 0 if all went well and every replay is whole; 1 if a replay or a plan was refused, a replay\n"
 	"cut, or a file could not be read or written; 2 for wrong usage.\n";
@@ -141,6 +149,10 @@ static int run(const arguments *a)
 		return count == 1 ? show_events(files[0], a->progress) : wrong_usage("events needs one file", "");
 	if (strcmp(command, "meta") == 0)
 		return count == 1 ? show_metadata(files[0]) : wrong_usage("meta needs one file", "");
+	if (strcmp(command, "table") == 0)
+		return count == 1 ? show_table(files[0], a->progress) : wrong_usage("table needs one file", "");
+	if (strcmp(command, "resave") == 0)
+		return count == 2 ? resave(files[0], files[1], a->progress) : wrong_usage("resave needs two files", "");
 	if (strcmp(command, "demo") == 0)
 		return count == 1 ? write_demo(files[0]) : wrong_usage("demo needs one file", "");
 	return wrong_usage("unknown command", command);

@@ -42,6 +42,26 @@ int load_more(const char *path, size_t more, content *c);
 /* How many bytes files have, as far as that is known before reading. */
 uint64_t total_size(char **paths, int count);
 
+/* ---- save.c */
+
+/* A new file, so that no replay is written over; - is standard output. 0, or an errno. */
+int save(const char *path, const uint8_t *bytes, size_t len);
+
+/* ---- open.c */
+
+/* A replay with its columns, in memory to be freed by close_replay. */
+typedef struct {
+	content file;
+	slp_opened opened;
+	slp_space space;
+	uint32_t *cells;
+	uint8_t *bytes;
+} replay;
+
+/* WELL, or FAILED after words on standard error. */
+int open_replay(const char *path, int progress, replay *r);
+void close_replay(replay *r);
+
 /* ---- progress.c: a bar on standard error */
 
 enum { PROGRESS_AUTO, PROGRESS_ALWAYS, PROGRESS_NEVER };
@@ -57,6 +77,8 @@ void progress_clear(void);
 int walk_files(char **paths, int count, int progress);
 int show_events(const char *path, int progress);
 int show_metadata(const char *path);
+int show_table(const char *path, int progress);
+int resave(const char *in, const char *out, int progress);
 int write_demo(const char *path);
 
 /* ---- room.c */

@@ -24,6 +24,7 @@ static const char *const REFUSALS[] = {
 	[SLP_BAD_TABLE] = "the table of payload sizes is absent, not whole, or damaged",
 	[SLP_UNKNOWN_EVENT] = "an event whose code is not in the table of payload sizes",
 	[SLP_BAD_PLACE] = "an event that runs past the end of the event data",
+	[SLP_BAD_EVENTS] = "not a replay that can be read into columns",
 	[SLP_TOO_DEEP] = "a map more than 8 deep in the metadata",
 	[SLP_LONG_TEXT] = "a key or text of over 255 bytes in the metadata",
 	[SLP_REPEATED_KEY] = "a key twice in one map of the metadata",

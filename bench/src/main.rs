@@ -3,8 +3,11 @@
 //!     bench            nanoseconds, the best of many runs
 //!     bench count      instructions, under valgrind (callgrind): steady on any machine
 //!     bench rows       the same of rows: from 5,000 to 160,000 frames; and `bench rows count`
+//!     bench reads      the same of reading back: from 65,536 to 1,048,576 frames; and `bench reads count`
 //!     bench once WHAT GAME REPEATS    what `count` runs
 
+mod plain;
+mod reads;
 mod rows;
 mod scattered;
 mod work;
@@ -22,9 +25,11 @@ fn main() {
 		["count"] => counts(),
 		["rows"] => row_times(),
 		["rows", "count"] => row_counts(),
+		["reads"] => read_times(),
+		["reads", "count"] => read_counts(),
 		["once", what, game, repeats] => once(what, number(game), number(repeats)),
 		_ => {
-			eprintln!("usage: bench [rows] [count]");
+			eprintln!("usage: bench [rows | reads] [count]");
 			std::process::exit(2)
 		}
 	}
@@ -111,6 +116,9 @@ fn once(what: &str, game: usize, repeats: usize) {
 	if rows::WHAT.contains(&what) {
 		let mut work = rows::Rows::new(rows::SHAPES[game]);
 		(0..repeats).for_each(|_| work.run(what));
+	} else if reads::WHAT.contains(&what) {
+		let mut work = reads::Reads::new(reads::SHAPES[game]);
+		(0..repeats).for_each(|_| work.run(what));
 	} else {
 		let mut work = Work::new(SHAPES[game]);
 		(0..repeats).for_each(|_| work.run(what));
@@ -132,6 +140,27 @@ fn row_counts() {
 	for (i, &shape) in rows::SHAPES.iter().enumerate() {
 		println!("\n{}: all Pre and Post rows of two players at 3.18", shape.name);
 		for what in rows::WHAT {
+			let each = (collected(what, i, 3) - collected(what, i, 1)) / 2;
+			println!("{what:<34} {each:>14} instructions {:>12.1} a frame", each as f64 / shape.frames as f64);
+		}
+	}
+}
+
+fn read_times() {
+	for &shape in reads::SHAPES {
+		let mut work = reads::Reads::new(shape);
+		println!("\n{}: a game of two players at 3.18", shape.name);
+		for what in reads::WHAT {
+			let least = best(|| work.run(what));
+			println!("{what:<34} {:>12.2} ms {:>12.2} ns a frame", least / 1e6, least / shape.frames as f64);
+		}
+	}
+}
+
+fn read_counts() {
+	for (i, &shape) in reads::SHAPES.iter().enumerate() {
+		println!("\n{}: a game of two players at 3.18", shape.name);
+		for what in reads::WHAT {
 			let each = (collected(what, i, 3) - collected(what, i, 1)) / 2;
 			println!("{what:<34} {each:>14} instructions {:>12.1} a frame", each as f64 / shape.frames as f64);
 		}

@@ -4,10 +4,13 @@ use std::hint::black_box;
 
 use games::{
 	adapt,
+	lent::Lent,
 	shaped::{self, Shape},
 	Case,
 };
 use peppi::{frame::Rollbacks, game::immutable::Game, io::slippi};
+
+use crate::plain;
 
 pub const WHAT: &[&str] = &[
 	"write: Rust to a fixed slice",
@@ -16,6 +19,9 @@ pub const WHAT: &[&str] = &[
 	"write: copy of the bytes",
 	"run of 1,000 frames: libslp",
 	"run of no frames: libslp",
+	"measure: libslp",
+	"read: libslp",
+	"read: plain C",
 	"mask, except first: Rust",
 	"mask, except first: libslp",
 	"mask, except last: libslp",
@@ -49,10 +55,11 @@ pub struct Work {
 	events: usize,
 	mask: Vec<u8>,
 	scratch: Vec<u8>,
+	lent: Lent,
 }
 
 impl Work {
-	/// The game, with both writers' files compared.
+	/// The game, with both writers' files compared, and with its columns read from the file as they were.
 	pub fn new(shape: Shape) -> Self {
 		let case = shaped::game(shape);
 		let rust = adapt::game(&case);
@@ -65,7 +72,8 @@ impl Work {
 		let mask = vec![0; case.ids.len()];
 		let scratch = vec![0; slp::scratch_len(&case.ids)];
 		let room = Vec::with_capacity(file.len());
-		Self { case, rust, file, fixed, room, events, mask, scratch }
+		let lent = plain::read_both(&case, &file);
+		Self { case, rust, file, fixed, room, events, mask, scratch, lent }
 	}
 
 	pub fn name(&self) -> &str {
@@ -100,7 +108,7 @@ impl Work {
 	}
 
 	pub fn moves_file(&self, what: &str) -> bool {
-		!what.starts_with("mask") && !what.starts_with("run")
+		!what.starts_with("mask") && !what.starts_with("measure") && !what.starts_with("run")
 	}
 
 	pub fn run(&mut self, what: &str) {
@@ -122,6 +130,9 @@ impl Work {
 			"run of no frames: libslp" => {
 				_ = black_box(slp::write_frames(&self.case.game.frames, &self.case.stores(), &mut self.fixed, 0, 500..500))
 			}
+			"measure: libslp" => _ = black_box(slp::measure(black_box(&self.file))),
+			"read: libslp" => _ = black_box(self.lent.read(black_box(&self.file))),
+			"read: plain C" => _ = black_box(plain::read(&self.case, black_box(&self.file), &mut self.lent)),
 			"walk: libslp" => {
 				black_box(walk(&self.file));
 			}
@@ -130,7 +141,7 @@ impl Work {
 			}
 			_ => self.run_mask(what),
 		}
-		black_box((&mut self.fixed, &mut self.mask));
+		black_box((&mut self.fixed, &mut self.mask, &mut self.lent));
 	}
 
 	fn run_mask(&mut self, what: &str) {

@@ -24,6 +24,9 @@ slp_post_answer real_slp_post_row(slp_frames frames, SLP_STORE_PARAMETERS, size_
 slp_run real_slp_rows(uint32_t *out, size_t out_len, slp_frames frames, SLP_STORE_PARAMETERS, uint8_t family, size_t slot, size_t from, size_t to);
 slp_pre real_slp_pre_of(const uint32_t *cells, size_t cells_len, slp_version version, uint32_t present);
 
+slp_measured real_slp_measure(const uint8_t *file, size_t file_len);
+slp_opened real_slp_read(const uint8_t *file, size_t file_len, SLP_SPACE_PARAMETERS);
+
 /* The parameters of the stores, handed on. */
 #define STORES \
 	ids, ids_len, starts, starts_len, pres, pres_len, posts, posts_len, ends, ends_len, items, items_len, fods, fods_len, whispys, \
@@ -416,4 +419,97 @@ slp_pre slp_pre_of(const uint32_t *cells, size_t cells_len, slp_version version,
 	if (faulty("of-mark"))
 		row.present = (uint8_t)present;
 	return row;
+}
+
+slp_measured slp_measure(const uint8_t *file, size_t file_len)
+{
+	slp_measured m = real_slp_measure(file, file_len);
+	if (faulty("measure-offset"))
+		m.offset = 0;
+	if (faulty("measure-first") && m.refused == 1)
+		m.refused = SLP_BAD_EVENTS;
+	if (faulty("measure-codes") && !m.refused)
+		m.codes_given = m.lengths.codes > 0;
+	if (faulty("measure-size"))
+		m.actual_size &= 511;
+	if (faulty("measure-presence") && m.frames.port_count && !m.frames.ports[0].follower)
+		m.frames.ports[0].leader_presence = 0;
+	if (faulty("measure-refused") && m.refused)
+		m.frames.version.major = 3;
+	if (faulty("measure-offsets") && m.lengths.fod_offsets)
+		m.lengths.fod_offsets--;
+	if (faulty("measure-tail") && m.places.tail == SLP_FILE_TAIL_ODD)
+		m.places.tail = SLP_FILE_TAIL_NONE;
+	return m;
+}
+
+/* A game that was read, with a fault in it. */
+static void misread_game(slp_game *g, const uint8_t *block)
+{
+	if (faulty("open-tail"))
+		g->start.match_info.tail = SLP_TAIL_CLEARED;
+	if (faulty("open-flag") && g->start.is_raining_bombs)
+		g->start.is_raining_bombs = block[10];
+	if (faulty("open-team"))
+		g->start.seats[1].team.given |= g->start.seats[1].given;
+	if (faulty("open-level") && g->start.seats[0].given)
+		g->start.seats[0].cpu_level.given = 1;
+	if (faulty("open-empty-seat"))
+		g->start.seats[2].kind |= !g->start.seats[2].given;
+	if (faulty("open-name") && g->start.seats[1].netplay.name.len == 30)
+		g->start.seats[1].netplay.name.len = 29;
+	if (faulty("open-text-past"))
+		g->start.match_info.id.bytes[49] = block[750];
+	if (faulty("open-initiator") && g->end.given && g->frames.version.major < 2)
+		g->end.initiator = 0;
+	if (faulty("open-placement"))
+		for (int n = 0; n < 4; n++)
+			g->end.placements[n] = g->end.given && !g->end.placed[n] ? 255 : g->end.placements[n];
+	if (faulty("open-double"))
+		g->double_end = 0;
+	if (faulty("open-follower") && g->frames.port_count)
+		g->frames.ports[g->frames.port_count - 1].follower_presence = g->frames.ports[0].leader_presence;
+	if (faulty("open-metadata"))
+		g->metadata_given = 0;
+}
+
+slp_opened slp_read(const uint8_t *file, size_t file_len, SLP_SPACE_PARAMETERS)
+{
+	slp_opened o = real_slp_read(file, file_len, STORES, codes, codes_len);
+	size_t frames = o.game.frames.counts.frames;
+	if (o.refused) {
+		if (faulty("open-refused") && o.refused == SLP_BAD_EVENTS && ids_len)
+			ids[0] ^= 1;
+		if (faulty("open-short") && o.refused == SLP_SHORT_OUTPUT && posts_len)
+			posts[0] ^= 1;
+		if (faulty("open-order") && presence_len == 0)
+			o.refused = o.refused == SLP_TOO_MANY ? SLP_SHORT_OUTPUT : o.refused;
+		if (faulty("open-unlike-ends") && o.refused == SLP_BAD_EVENTS && file_len > 20000)
+			o.refused = SLP_TOO_MANY;
+		return o;
+	}
+	misread_game(&o.game, file + o.places.block_at);
+	if (faulty("open-absent") && frames && presence_len && !(presence[0] & 1) && pres_len)
+		pres[0] = 7;
+	if (faulty("open-spare") && presence_len && frames % 8)
+		presence[0] |= (uint8_t)(frames < 8 ? 128 : 0);
+	if (faulty("open-leader-bits") && presence_len > 1 && o.game.frames.ports[0].follower)
+		presence[0] = presence[o.game.frames.ports[0].leader_presence];
+	if (faulty("open-late") && frames > 8)
+		ids[8] ^= 1;
+	if (faulty("open-codes") && codes_len > 512)
+		codes[511] ^= 1;
+	if (faulty("open-offset") && item_offsets_len > 2)
+		item_offsets[1] = item_offsets[2];
+	if (faulty("open-past") && starts_len > slp_columns(o.game.frames.version, SLP_FAMILY_FRAME_START) * frames)
+		starts[starts_len - 1] ^= 1;
+	if (faulty("open-outside") && ends_len)
+		ends[ends_len] ^= 1;
+	if (faulty("open-input"))
+		spoil(file + o.places.block_at);
+	if (faulty("open-block"))
+		o.places.block_len -= o.places.block_len > 760;
+	if (faulty("open-body") && o.places.metadata_len)
+		o.places.metadata_at--;
+	return o;
 }

@@ -1,6 +1,8 @@
 /* The examples in the comments of slp.h, word for word: header_examples.sh sees to that. Here they are compiled and run. */
 #include <slp.h>
 #include <stdio.h>
+#include <stdlib.h>
+#include <string.h>
 
 /* ---- reading */
 
@@ -45,6 +47,37 @@ static void write_and_read(void)
 	walk_through(out, w.len);
 	walk_through(out, 349);
 	walk_through(out, 28);
+}
+
+/* ---- columns back */
+
+static void open_and_save(const uint8_t *file, size_t len, uint8_t *out, size_t out_len)
+{
+	slp_measured m = slp_measure(file, len);
+	if (m.refused) printf("refused %u at %zu\n", m.refused, m.offset);
+	else printf("%zu frames, %zu ports\n", m.frames.counts.frames, m.frames.port_count);
+	uint32_t *cells = malloc(4 * slp_space_cells(&m.lengths) + 1);
+	uint8_t *bytes = malloc(slp_space_bytes(&m.lengths) + 1);
+	slp_space space = slp_space_in(&m.lengths, cells, bytes);
+	slp_opened o = slp_read_game(file, len, &space);
+	slp_stores stores = slp_stores_in(&space);
+	slp_written w = slp_save(out, out_len, &o, &space, file);    // out_len is len
+	printf("id %u, saved %zu: %s\n", stores.ids.p[0], w.len, w.len == len && memcmp(out, file, len) == 0 ? "the same" : "another");
+	free(cells);
+	free(bytes);
+}
+
+/* A frame of a player at 0.1.0, whose other seats are empty. */
+static void open_again(void)
+{
+	static const uint32_t cells[SLP_PRE_COLUMNS] = { 77 };
+	slp_game game = { .frames = { .version = { 0, 1, 0 }, .counts = { .frames = 1 }, .port_count = 1 } };
+	slp_stores stores = { .ids = { cells, 1 }, .pres = { cells, slp_columns(game.frames.version, SLP_FAMILY_PRE) },
+	                      .posts = { cells, slp_columns(game.frames.version, SLP_FAMILY_POST) } };
+	uint8_t block[320] = { [101] = 3, [137] = 3, [173] = 3, [209] = 3 }, file[500], out[500];
+	slp_bytes none = { NULL, 0 }, start = { block, sizeof block };
+	slp_written w = slp_write_game(file, sizeof file, &game, &stores, start, none, none);
+	open_and_save(file, w.len, out, w.len);
 }
 
 /* ---- room */
@@ -153,6 +186,7 @@ int main(void)
 {
 	mask_frames();
 	write_and_read();
+	open_again();
 	reserve();
 	append_run();
 	write_and_read_map();

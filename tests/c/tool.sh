@@ -71,6 +71,11 @@ run events
 run events a b
 run demo
 run demo a b
+run table
+run table a b
+run resave
+run resave a
+run resave a b c
 run --progress=often walk game.slp
 
 # ---- demo
@@ -145,6 +150,49 @@ run events empty.slp
 run events missing.slp
 run events directory
 
+# ---- resave
+guarded resave game.slp saved.slp
+cmp game.slp saved.slp && echo "saved.slp: the same"
+run resave game.slp saved.slp
+run resave game.slp game.slp
+run resave game.slp missing/saved.slp
+from game.slp resave - standard.slp
+to standard-too.slp resave game.slp -
+for f in standard standard-too; do cmp game.slp $f.slp && echo "$f.slp: the same"; done
+from "$stored" resave - stored.slp
+cmp "$stored" stored.slp && echo "stored.slp: the same"
+to /dev/full resave game.slp -
+# a flag of 2 is saved as 1, and what stands behind the event data is lost
+patched flag.slp 58 '\002'
+run resave flag.slp flag-saved.slp
+guarded resave longer.slp longer-saved.slp
+cmp longer.slp longer-saved.slp
+# the first frame's second player is away: without its Pre and its Post, which are 152 bytes
+{ head -c 888 game.slp; head -c 1040 game.slp | dd bs=955 skip=1 2>/dev/null; dd if=game.slp bs=1125 skip=1 2>/dev/null; } >away.slp
+printf '\126\044' | dd of=away.slp bs=1 seek=13 conv=notrunc 2>/dev/null
+run resave away.slp away-saved.slp
+# a version that is too new, an id of another frame, and files that are cut or cannot be walked
+patched newer.slp 50 '\001'
+patched order.slp 826 '\001'
+for f in newer order cut unfilled tail unknown overrun signature table missing; do run resave $f.slp never.slp; done
+run resave directory never.slp
+[ -e never.slp ] || echo 'never.slp: not there'
+
+# ---- table
+to table.csv table game.slp
+head -n 1 table.csv
+head -n 3 table.csv | cut -d, -f1-13
+awk -F, '{ fields[NF]++ } END { for (n in fields) print fields[n], "lines of", n, "fields" }' table.csv
+from "$stored" table - | cut -d, -f1-8
+guarded table away.slp | cut -d, -f1-8 | sed -n '1,5p;$p'
+# 0.1, no number, minus zero and minus infinity; and -128
+patched floats.slp 834 '\075\314\314\315\177\300\000\000\200\000\000\000\377\200\000\000'
+printf '\200' | dd of=floats.slp bs=1 seek=880 conv=notrunc 2>/dev/null
+"$slp" table floats.slp | head -n 2 | cut -d, -f1-9,18
+for f in newer order cut unfilled tail unknown signature missing; do run table $f.slp; done
+run table directory
+to /dev/full table game.slp
+
 # ---- room
 guarded room --slots=2 --frames=28800 --items=20000
 run room
@@ -212,3 +260,7 @@ echo '$ slp --progress=always walk game.slp'
 "$slp" --progress=always walk game.slp 2>&1 >out | cat -v
 echo
 cat out
+for verb in table resave; do
+	echo "\$ slp --progress=always $verb game.slp"
+	"$slp" --progress=always $verb game.slp $([ $verb = table ] || echo bar.slp) 2>&1 >out | tr '\r' '\n' | sed -n 's/ .* 100%.*/: to the end/p'
+done

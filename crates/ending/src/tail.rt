@@ -3,7 +3,7 @@ ghost use Rattle.wire.specs.Wire.{Room, Wrote, keep};
 ghost use Rattle.ending.specs.Tail.{metadataOf, tailOf};
 
 // The key "metadata" and the brace that opens its map: U\x08metadata{
-const METADATA_KEY: [u8; 11] = [
+pub const METADATA_KEY: [u8; 11] = [
     0x55,
     0x08,
     0x6d,

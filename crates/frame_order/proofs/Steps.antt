@@ -14,7 +14,7 @@ use Rattle.layout.specs.declared.columns.Family.{Family}
 use Rattle.layout.specs.declared.columns.Family.the-variants.{Pre, Post, FrameStart, Item, FrameEnd, FodPlatform, DreamlandWhispy, StadiumTransformation}
 use Rattle.grammar.specs.WellFormed.{nobody, Order, mayCome}
 use Rattle.grammar.specs.Machine.{slotSaid, isNext, closed, inFrame, player, orderly, state, rankOf, dueAfter, after}
-use Rattle.frame_order.specs.Inner.{slotAt, dueIn, saidOf, stateIn, inside, closedAt, nextAt, endAt, JoinedAt, Ready, After, RowAfter}
+use Rattle.frame_order.specs.Inner.{slotAt, dueIn, saidOf, stateIn, inside, closedAt, stands, nextAt, endAt, JoinedAt, Ready, After, RowAfter}
 use Rattle.frame_order.specs.declared.place.Place.{Place}
 use Rattle.frame_order.specs.declared.place.Word.{Word}
 
@@ -59,23 +59,39 @@ module _ (v : Version) (o : Order) (file : List ℕ) (span : ℕ) (m : Place) (w
   unfolding closed closedAt
   closed-is = rw (nobody-is (m .due) (m .pre))
 
-  module _ (i s c p r : Bool) (i-is : i ≡ inside m 2 w) (s-is : s ≡ hasFamily v FrameStart) (c-is : c ≡ closedAt v m) where
-    place-is : (inFrame (stateIn file span m) 2 (saidOf w) || (not (hasFamily v FrameStart) && closed v (stateIn file span m))) ≡ (i || (not s && c))
-    unfolding inFrame inside
-    place-is = rw (closed-is, i-is, s-is, c-is)
+  module _ (q p r : Bool) (q-is : q ≡ stands v m w) where
+    place-is : (inFrame (stateIn file span m) 2 (saidOf w) || (not (hasFamily v FrameStart) && closed v (stateIn file span m))) ≡ q
+    unfolding inFrame inside stands
+    place-is = rw (closed-is, q-is)
 
-    pub pre-not : (i || (not s && c)) ≡ false → false ≡ orderly v o (stateIn file span m) Pre (saidOf w)
+    pub pre-not : q ≡ false → false ≡ orderly v o (stateIn file span m) Pre (saidOf w)
     unfolding orderly
-    pre-not q = rw (place-is ∙ q)
+    pre-not e = rw (place-is ∙ e)
 
-    pub pre-nobody : (i || (not s && c)) ≡ true → p ≡ player (saidOf w) → p ≡ false → false ≡ orderly v o (stateIn file span m) Pre (saidOf w)
+    pub pre-nobody : q ≡ true → p ≡ player (saidOf w) → p ≡ false → false ≡ orderly v o (stateIn file span m) Pre (saidOf w)
     unfolding orderly
-    pre-nobody q e t = rw (place-is ∙ q, sym e ∙ t)
+    pre-nobody h e t = rw (place-is ∙ h, sym e ∙ t)
 
-    pub pre-may : (i || (not s && c)) ≡ true → p ≡ player (saidOf w) → p ≡ true → (k : ℕ) → k ≡ slotSaid (saidOf w) → r ≡ mayCome o (dueIn file span (m .pre) (m .due)) k
+    pub pre-may : q ≡ true → p ≡ player (saidOf w) → p ≡ true → (k : ℕ) → k ≡ slotSaid (saidOf w) → r ≡ mayCome o (dueIn file span (m .pre) (m .due)) k
         → r ≡ orderly v o (stateIn file span m) Pre (saidOf w)
     unfolding orderly
-    pre-may q e t k x y = y ∙ ap (λ (n : ℕ). mayCome o (dueIn file span (m .pre) (m .due)) n) x ∙ rw (place-is ∙ q, sym e ∙ t)
+    pre-may h e t k x y = y ∙ ap (λ (n : ℕ). mayCome o (dueIn file span (m .pre) (m .due)) n) x ∙ rw (place-is ∙ h, sym e ∙ t)
+
+-- ---- where a Pre may stand
+
+module _ (v : Version) (m : Place) (w : Word) (i : Bool) (i-is : i ≡ inside m 2 w) where
+  pub stands-inside : i ≡ true → true ≡ stands v m w
+  unfolding stands
+  stands-inside t = rw (sym i-is ∙ t)
+
+  module _ (t : i ≡ false) (s : Bool) (s-is : s ≡ hasFamily v FrameStart) where
+    pub stands-not : s ≡ true → false ≡ stands v m w
+    unfolding stands
+    stands-not e = rw (sym i-is ∙ t, sym s-is ∙ e)
+
+    pub stands-closed : s ≡ false → (c : Bool) → c ≡ closedAt v m → c ≡ stands v m w
+    unfolding stands
+    stands-closed e c c-is = c-is ∙ rw (sym i-is ∙ t, sym s-is ∙ e)
 
 -- ---- a Post, a FrameEnd, and every family
 

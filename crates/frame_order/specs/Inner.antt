@@ -46,6 +46,10 @@ inside m rank w = leb (m .rank) rank && eqb (m .id) (w .id)
 unfoldable pub closedAt : Version → Place → Bool
 closedAt v m = eqb (m .due) 0 && (not (hasFamily v FrameEnd) || eqb (m .rank) 8)
 
+-- a Pre may stand here
+unfoldable pub stands : Version → Place → Word → Bool
+stands v m w = inside m 2 w || (not (hasFamily v FrameStart) && closedAt v m)
+
 unfoldable pub nextAt : List ℕ → ℕ → Place → Word → Bool
 nextAt file span m w = inside m 7 w && (player (saidOf w) && isNext (dueIn file span (m .pre) (m .due)) (slotSaid (saidOf w)))
 

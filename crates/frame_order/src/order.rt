@@ -4,7 +4,7 @@ ghost use Prim.Native.Nat.{_+_, _*_, _≤_};
 ghost use lib.ListN.{length};
 ghost use Rattle.layout.specs.declared.columns.Family.the-variants.{Pre};
 ghost use Rattle.grammar.specs.Machine.{orderly};
-ghost use Rattle.frame_order.specs.Inner.{orderOf, saidOf, stateIn, nextAt, endAt};
+ghost use Rattle.frame_order.specs.Inner.{orderOf, saidOf, stateIn, stands, nextAt, endAt};
 use crate::due::may_come;
 use crate::due::slot_at;
 use crate::place::Place;
@@ -16,12 +16,25 @@ use crate::place::slot;
 use format::version::Version;
 use layout::columns::Family;
 
-// Whether a Pre may come: in its frame, or as the first of one before 2.2.
+// Whether a Pre may stand here: in its frame, or as the first of one before 2.2.
+fn may_stand(v: Version, m: Place, w: Word) -> bool
+    ensures { λ r. ⌜ r ≡ stands v m w ⌝ }
+{
+    if is_inside(m, 2, w) {
+        return true;
+    }
+    if Family::FrameStart.exists(v) {
+        return false;
+    }
+    is_closed(v, m)
+}
+
+// Whether a Pre may come: it may stand here, and its player may come after those that are due.
 fn pre_may(file: &[u8], v: Version, any: bool, span: usize, m: Place, w: Word) -> bool
     requires { ⌜ (7 ≤ span) × (m .pre + m .due * span ≤ length (now file)) ⌝ }
     ensures { λ r. ⌜ r ≡ orderly v (orderOf any) (stateIn (now (file .entry)) span m) Pre (saidOf w) ⌝ }
 {
-    if is_inside(m, 2, w) | (!Family::FrameStart.exists(v) & is_closed(v, m)) {
+    if may_stand(v, m, w) {
         if is_player(w) {
             return may_come(file, any, span, m.pre, m.due, slot(w));
         }

@@ -16,15 +16,15 @@ pub struct Place {
 // What an event says: its frame's id and, of a player's, who it is.
 pub struct Word {
     pub id: u32,
-    pub port: u8,
-    pub follower: u8,
+    pub port: u32,
+    pub follower: u32,
 }
 
 // The slot of a player's event.
 pub fn slot(w: Word) -> usize
     ensures { λ r. ⌜ r ≡ slotSaid (saidOf w) ⌝ }
 {
-    2 * wire::wide(w.port) + wire::wide(w.follower)
+    2 * (w.port as usize) + w.follower as usize
 }
 
 // Whether the port is up to 3 and the follower's mark 0 or 1.

@@ -23,14 +23,16 @@ use Rattle.layout.specs.declared.columns.Family.the-variants.{Pre, Post, FrameS
 use Rattle.grammar.specs.WellFormed.{Each, Order}
 use Rattle.grammar.specs.Machine.{familyOf, initial, Said, State, state, idIn, portIn, followerIn, saidBy, closed, inFrame, orderly, allowed, dueAfter, after, onFamily, rest}
 use Rattle.grammar.proofs.Exactly.{Byte, Taken, exactly}
+use Rattle.frame_scan.specs.Counts.{noTally, begunAt, countedOf}
 use Rattle.frame_scan.specs.Inner.{saidAt, spanAt, stops, takesAt, takes, scan}
+use Rattle.frame_scan.specs.declared.tally.Tally.{Tally}
 
 -- a file whose bytes from a place on are those of an event, and then others
 module _ (file : List ℕ) (at : ℕ) (e : Ev) (more : List ℕ) (here : drop at file ≡ eventBytes e ++ more) where
   byte-at : (k : ℕ) → getD file (at + k) 0 ≡ getD (eventBytes e ++ more) k 0
   byte-at k = sym (getD-drop at file k 0) ∙ ap (λ (l : List ℕ). getD l k 0) here
 
-  code-at : getD file at 0 ≡ e .code
+  pub code-at : getD file at 0 ≡ e .code
   code-at = ap (λ (n : ℕ). getD file n 0) (sym (add-zero at)) ∙ byte-at 0
 
   id-at : 4 ≤ length (e .payload) → number (part file (at + 1) 4) ≡ idIn e
@@ -59,6 +61,18 @@ module _ (v : Version) (o : Order) (s : State) (a b : Said) (i : a .id ≡ b .id
   said-same Item p q = (rw i, λ z. state 6 (i z) (s .due))
   said-same FrameEnd p q = (rw i, λ z. state 8 (i z) (s .due))
 
+-- nor does the tally
+pub counted-same : (t : Tally) (rank id : ℕ) (a b : Said) → a .id ≡ b .id → (family : Family) → ((family ≡ Pre) → a ≡ b) → countedOf t rank id family a ≡ countedOf t rank id family b
+unfolding countedOf
+counted-same t rank id a b i Pre p = ap (countedOf t rank id Pre) (p refl)
+counted-same t rank id a b i Post p = refl
+counted-same t rank id a b i FrameStart p = ap (begunAt t id) i
+counted-same t rank id a b i Item p = refl
+counted-same t rank id a b i FrameEnd p = refl
+counted-same t rank id a b i FodPlatform p = refl
+counted-same t rank id a b i DreamlandWhispy p = refl
+counted-same t rank id a b i StadiumTransformation p = refl
+
 pub big : (family : Family) (v : Version) → 4 ≤ recordSize family v
 big Pre v = omega arith
 big Post v = omega arith
@@ -85,13 +99,14 @@ Spanned spans e = getD spans (e .code) 0 ≡ suc (length (e .payload))
 module _ (v : Version) (o : Order) (file spans : List ℕ) (stop : ℕ) (tail : List ℕ) where
   module _ (s : State) (at : ℕ) (e : Ev) (more : List ℕ) (here : drop at file ≡ eventBytes e ++ more) (spanned : Spanned spans e) (whole : at + suc (length (e .payload)) ≤ stop)
     where
-      span-at : spanAt spans file at ≡ suc (length (e .payload))
+      pub span-at : spanAt spans file at ≡ suc (length (e .payload))
       span-at = ap (λ (c : ℕ). getD spans c 0) (code-at file at e more here) ∙ spanned
 
-      one-event : (family : Family) (next : State → Option ℕ)
-          → cond (takes v o file spans stop s at family) (next (after s family (saidAt file at))) none ≡ cond (allowed v o s family e) (next (after s family (saidBy e))) none
+      pub one-event : {A : Type 0} (family : Family) (t : Tally) (next : State → Tally → Option A)
+          → cond (takes v o file spans stop s at family) (next (after s family (saidAt file at)) (countedOf t (s .rank) (s .id) family (saidAt file at))) none
+          ≡ cond (allowed v o s family e) (next (after s family (saidBy e)) (countedOf t (s .rank) (s .id) family (saidBy e))) none
       unfolding takesAt allowed
-      one-event family next =
+      one-event family t next =
           elim (ℕ-discrete (length (e .payload)) (recordSize family v)) [
             | yes q ↦
                 let b = big family v in
@@ -102,7 +117,16 @@ module _ (v : Version) (o : Order) (file spans : List ℕ) (stop : ℕ) (tail : 
                 said-same v o s (saidAt file at) (saidBy e) i family
                 (λ f. who (omega (arith, ap (λ (g : Family). recordSize g v) f)))
                 (λ f. who (omega (arith, ap (λ (g : Family). recordSize g v) f))) in
-                rw (eq-eqb (spanAt spans file at) (1 + recordSize family v) (omega (arith, span-at)), le-leb (at + spanAt spans file at) stop (omega (arith, span-at)), eq-eqb (length (e .payload)) (recordSize family v) q, same .0, same .1)
+                let counts =
+                counted-same t (s .rank) (s .id) (saidAt file at) (saidBy e) i family (λ f. who (omega (arith, ap (λ (g : Family). recordSize g v) f))) in
+                rw (
+                  eq-eqb (spanAt spans file at) (1 + recordSize family v) (omega (arith, span-at)),
+                  le-leb (at + spanAt spans file at) stop (omega (arith, span-at)),
+                  eq-eqb (length (e .payload)) (recordSize family v) q,
+                  same .0,
+                  same .1,
+                  counts,
+                )
             | no q ↦
                 rw (
                   ne-eqb (spanAt spans file at) (1 + recordSize family v) (λ x. q (omega (arith, span-at))),
@@ -143,7 +167,7 @@ module _ (v : Version) (o : Order) (file spans : List ℕ) (stop : ℕ) (tail : 
           ends true = rw x
           ends false = refl
       go (some family) here more x w =
-          one-event s at e (eventsBytes es ++ tail) here (h .0) w family (λ s. scan v o file spans stop n (at + spanAt spans file at) s)
+          one-event s at e (eventsBytes es ++ tail) here (h .0) w family noTally (λ s t. scan v o file spans stop n (at + spanAt spans file at) s)
           ∙ steps (allowed v o s family e)
         where
           steps : (c : Bool) → cond c (scan v o file spans stop n (at + spanAt spans file at) (after s family (saidBy e))) none ≡ placeOf stop (cond c (rest v o (after s family (saidBy e)) es) none)
@@ -151,7 +175,7 @@ module _ (v : Version) (o : Order) (file spans : List ℕ) (stop : ℕ) (tail : 
           steps false = refl
 
 -- no more events than bytes
-few-events : (es : List Ev) → length es ≤ length (eventsBytes es)
+pub few-events : (es : List Ev) → length es ≤ length (eventsBytes es)
 unfolding eventsBytes
 few-events [] = omega arith
 few-events (e ∷ es) = let f = few-events es in omega (arith, length-append (eventBytes e) (eventsBytes es))

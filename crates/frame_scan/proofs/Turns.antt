@@ -16,23 +16,19 @@ use Rattle.layout.specs.Payloads.{recordSize}
 use Rattle.layout.specs.declared.columns.Family.{Family}
 use Rattle.layout.specs.declared.columns.Family.the-variants.{Pre, Post, FrameStart, Item, FrameEnd, FodPlatform, DreamlandWhispy, StadiumTransformation}
 use Rattle.grammar.specs.WellFormed.{Order, mayCome}
-use Rattle.grammar.specs.Machine.{familyOf, onFamily, initial, slotSaid, isNext, closed, inFrame, player, orderly, after}
+use Rattle.grammar.specs.Machine.{familyOf, onFamily, initial, Said, State, slotSaid, isNext, closed, inFrame, player, orderly, after}
 use Rattle.grammar.proofs.Tests.{both}
 use Rattle.frame_order.specs.Inner.{slotAt, dueIn, saidOf, stateIn, closedAt, Held, Ready, After}
 use Rattle.frame_order.specs.declared.place.Place.{Place}
 use Rattle.frame_order.specs.declared.place.Word.{Word}
 use Rattle.frame_order.proofs.Steps.{closed-is}
 use Rattle.frame_order.proofs.Laws.{room-go}
-use Rattle.frame_scan.specs.Inner.{kindOf, Asked, Gone, Tried, endsAt, saidAt, spanAt, stops, takesAt, scan}
+use Rattle.frame_scan.specs.Counts.{noTally, countedOf, Under}
+use Rattle.frame_scan.specs.Inner.{kindOf, Asked, Gone, Tried, endsAt, tellsAt, saidAt, spanAt, stops, tells, takesAt, scan, tallied}
+use Rattle.frame_scan.specs.declared.tally.Tally.{Tally}
+use Rattle.frame_scan.proofs.Counting.{under-counted}
 use Rattle.frame_scan.specs.declared.event.Kind.the-variants.{Frame, Other}
 use Rattle.frame_scan.specs.declared.event.Turn.{Turn}
-
-module _ (v : Version) (family : Family) (span : ℕ) where
-  pub fits-is : (b : Bool) (r : ℕ) → b ≡ hasFamily v family → b ≡ true → r ≡ recordSize family v → eqb span (1 + r) ≡ (hasFamily v family && eqb span (1 + recordSize family v))
-  fits-is b r x y z = rw (z, sym x ∙ y)
-
-  pub fits-not : (b : Bool) → b ≡ hasFamily v family → b ≡ false → false ≡ (hasFamily v family && eqb span (1 + recordSize family v))
-  fits-not b x y = rw (sym x ∙ y)
 
 -- ---- what an event in order needs
 
@@ -94,6 +90,12 @@ module _ (v : Version) (o : Order) (file : List ℕ) (span : ℕ) (m : Place) (w
 pub size-of : (v : Version) (n : ℕ) (family : Family) (f : Bool) → f ≡ (hasFamily v family && eqb n (1 + recordSize family v)) → f ≡ true → n ≡ 1 + recordSize family v
 size-of v n family f e t = eqb-true n (1 + recordSize family v) (both (hasFamily v family) (eqb n (1 + recordSize family v)) (sym e ∙ t) .1)
 
+player-of : (v : Version) (o : Order) (s : State) (w : Said) → orderly v o s Pre w ≡ true → player w ≡ true
+unfolding orderly
+player-of v o s w q =
+    let more = both (inFrame s 2 w || (not (hasFamily v FrameStart) && closed v s)) (player w && mayCome o (s .due) (slotSaid w)) q .1 in
+    both (player w) (mayCome o (s .due) (slotSaid w)) more .0
+
 module _ (v : Version) (o : Order) (file : List ℕ) (span stop : ℕ) (m : Place) (at n : ℕ) (family : Family) (f : Bool)
     (f-is : f ≡ (hasFamily v family && eqb n (1 + recordSize family v))) where
   pub not-fits : f ≡ false → takesAt v o file stop (stateIn file span m) at n family ≡ false
@@ -114,7 +116,7 @@ module _ (v : Version) (o : Order) (file : List ℕ) (span stop : ℕ) (m : Plac
     not-orderly q = taken-as ∙ q
 
     pub gone : b ≡ true → (next : ℕ) → next ≡ at + n → Asked v file span stop m at → (place : Place) → After file span m w next family place
-        → Gone v o file span stop m at n family place next
+        → Gone v o file span stop m at n family place next w
     gone q next x a place h =
         let s = size-of v n family f f-is e in
         record {
@@ -123,23 +125,29 @@ module _ (v : Version) (o : Order) (file : List ℕ) (span stop : ℕ) (m : Plac
           next-is = x;
           asked = record { held = h .held; under = omega arith; long = a .long; span-is = a .span-is };
           later = omega arith;
+          said = said;
+          seated = λ p. player-of v o (stateIn file span m) (saidOf w) (ap (λ (f : Family). orderly v o (stateIn file span m) f (saidOf w)) (sym p) ∙ sym b-is ∙ q);
         }
 
 -- ---- the frames end, or not
 
-module _ (v : Version) (m : Place) (at : ℕ) (b : Bool) (b-is : b ≡ closedAt v m) where
-  pub ends-here : b ≡ true → some at ≡ endsAt v m at
-  ends-here t = rw (sym b-is ∙ t)
+module _ (v : Version) (m : Place) (at : ℕ) (y : Tally) (b : Bool) (b-is : b ≡ closedAt v m) where
+  pub ends-here : b ≡ true → (some at ≡ endsAt v m at) × (some y ≡ tellsAt v m y)
+  ends-here t = (rw (sym b-is ∙ t), rw (sym b-is ∙ t))
 
-  pub ends-not : b ≡ false → none ≡ endsAt v m at
-  ends-not t = rw (sym b-is ∙ t)
+  pub ends-not : b ≡ false → (none ≡ endsAt v m at) × (none ≡ tellsAt v m y)
+  ends-not t = (rw (sym b-is ∙ t), rw (sym b-is ∙ t))
 
 -- ---- the loop
 
-pub record Turning (v : Version) (o : Order) (file spans : List ℕ) (stop span first : ℕ) (m : Place) (at count : ℕ) : Type 0 where
+-- the answers of a place and a tally are those from the first place on, with enough turns left
+pub record Turning (v : Version) (o : Order) (file spans : List ℕ) (stop span first : ℕ) (m : Place) (at : ℕ) (y : Tally) : Type 0 where
   pub asked : Asked v file span stop m at
-  pub few : count ≤ at
-  pub same : scan v o file spans stop (suc stop) first initial ≡ scan v o file spans stop (suc (stop - count)) at (stateIn file span m)
+  pub left : ℕ
+  pub enough : stop < at + left
+  pub same : scan v o file spans stop (suc stop) first initial ≡ scan v o file spans stop left at (stateIn file span m)
+  pub counts : tallied v o file spans stop (suc stop) first initial noTally ≡ tallied v o file spans stop left at (stateIn file span m) y
+  pub under : Under y at
 
 kind-frame : (x : Option Family) (family : Family) → kindOf x ≡ Frame family → x ≡ some family
 kind-frame none family e = let z : _≡_ {A = ℕ} 0 1 = cc in absurd (omega arith)
@@ -150,25 +158,63 @@ kind-other none e = refl
 kind-other (some g) e = let z : _≡_ {A = ℕ} 0 1 = cc in absurd (omega arith)
 
 module _ (v : Version) (o : Order) (file spans : List ℕ) (stop span first : ℕ) where
-  pub turn-first : first ≤ stop → stop ≤ length file → span ≡ 1 + recordSize Pre v → Turning v o file spans stop span first (record { rank = 8; id = 0; pre = 0; due = 0 }) first 0
+  pub turn-first : first ≤ stop → stop ≤ length file → span ≡ 1 + recordSize Pre v → (y : Tally) → y ≡ noTally
+      → Turning v o file spans stop span first (record { rank = 8; id = 0; pre = 0; due = 0 }) first y
   unfolding dueIn
-  turn-first h k s =
+  turn-first h k s y e =
       let z = zero-mul span in
-      let e : stop - 0 ≡ stop = omega arith in
-      record { asked = record { held = record { inside = omega arith; joined = λ x y. absurd (y refl) }; under = h; long = k; span-is = s }; few = omega arith; same = rw e }
+      let none-yet : Under noTally first = record { frames = omega arith; items = omega arith; fods = omega arith; whispys = omega arith; stadiums = omega arith } in
+      record {
+        asked = record { held = record { inside = omega arith; joined = λ x y. absurd (y refl) }; under = h; long = k; span-is = s };
+        left = suc stop;
+        enough = omega arith;
+        same = refl;
+        counts = ap (tallied v o file spans stop (suc stop) first initial) (sym e);
+        under = subst (λ (t : Tally). Under t first) (sym e) none-yet;
+      }
 
-  module _ (m : Place) (at count : ℕ) (t : Turning v o file spans stop span first m at count) where
-    pub turn-end : stop ≤ at → endsAt v m at ≡ scan v o file spans stop (suc stop) first initial
-    unfolding scan stops
-    turn-end l =
-        sym (t .same ∙ rw (le-leb stop at l) (ap (λ (b : Bool). cond b (some at) none) (closed-is v o file span m (record { id = 0; port = 0; follower = 0 }))))
+  -- the answers after the last turn
+  abbrev Answers : Place → ℕ → Tally → Type 0
+  Answers m at y = (endsAt v m at ≡ scan v o file spans stop (suc stop) first initial) × (tellsAt v m y ≡ tallied v o file spans stop (suc stop) first initial noTally)
+
+  module _ (m : Place) (at : ℕ) (y : Tally) (t : Turning v o file spans stop span first m at y) where
+    closed-now : closed v (stateIn file span m) ≡ closedAt v m
+    closed-now = closed-is v o file span m (record { id = 0; port = 0; follower = 0 })
+
+    is-left : at ≤ stop → t .left ≡ suc (t .left - 1)
+    is-left l = omega (arith, t .enough)
+
+    end-now : (n : ℕ) → stop ≤ at → (scan v o file spans stop (suc n) at (stateIn file span m) ≡ endsAt v m at)
+        × (tallied v o file spans stop (suc n) at (stateIn file span m) y ≡ tellsAt v m y)
+    unfolding scan tallied stops tells
+    end-now n l = (
+      rw (le-leb stop at l) (ap (λ (b : Bool). cond b (some at) none) closed-now),
+      rw (le-leb stop at l) (ap (λ (b : Bool). cond b (some y) none) closed-now),
+    )
+
+    other-now : (n : ℕ) → at < stop → familyOf (getD file at 0) ≡ none → (scan v o file spans stop (suc n) at (stateIn file span m) ≡ endsAt v m at)
+        × (tallied v o file spans stop (suc n) at (stateIn file span m) y ≡ tellsAt v m y)
+    unfolding scan tallied stops tells onFamily
+    other-now n l f = (
+      rw (lt-leb stop at l, f) (ap (λ (b : Bool). cond b (some at) none) closed-now),
+      rw (lt-leb stop at l, f) (ap (λ (b : Bool). cond b (some y) none) closed-now),
+    )
+
+    answers : ((n : ℕ) → (scan v o file spans stop (suc n) at (stateIn file span m) ≡ endsAt v m at)
+        × (tallied v o file spans stop (suc n) at (stateIn file span m) y ≡ tellsAt v m y)) → Answers m at y
+    answers h =
+        let e = is-left (t .asked .under) in
+        let (a, b) = h (t .left - 1) in
+        (sym (t .same ∙ ap (λ (n : ℕ). scan v o file spans stop n at (stateIn file span m)) e ∙ a), sym (t .counts ∙ ap (λ (n : ℕ). tallied v o file spans stop n at (stateIn file span m) y) e ∙ b))
+
+    pub turn-end : stop ≤ at → Answers m at y
+    turn-end l = answers (λ n. end-now n l)
 
     module _ (l : at < stop) (code : ℕ) (code-is : code ≡ getD file at 0) where
-      pub turn-other : kindOf (familyOf code) ≡ Other → endsAt v m at ≡ scan v o file spans stop (suc stop) first initial
-      unfolding scan stops onFamily
+      pub turn-other : kindOf (familyOf code) ≡ Other → Answers m at y
       turn-other k =
           let f : familyOf (getD file at 0) ≡ none = ap familyOf (sym code-is) ∙ kind-other (familyOf code) k in
-          sym (t .same ∙ rw (lt-leb stop at l, f) (ap (λ (b : Bool). cond b (some at) none) (closed-is v o file span m (record { id = 0; port = 0; follower = 0 }))))
+          answers (λ n. other-now n l f)
 
       module _ (family : Family) (k : kindOf (familyOf code) ≡ Frame family) (n : ℕ) (n-is : n ≡ getD spans code 0) where
         is-family : familyOf (getD file at 0) ≡ some family
@@ -177,27 +223,46 @@ module _ (v : Version) (o : Order) (file spans : List ℕ) (stop span first : �
         span-is : n ≡ spanAt spans file at
         span-is = n-is ∙ ap (λ (c : ℕ). getD spans c 0) code-is
 
-        one-turn : (j : ℕ) → scan v o file spans stop (suc j) at (stateIn file span m)
-            ≡ cond (takesAt v o file stop (stateIn file span m) at n family) (scan v o file spans stop j (at + n) (after (stateIn file span m) family (saidAt file at))) none
+        abbrev now-at : State
+        now-at = stateIn file span m
+
+        abbrev then-at : State
+        then-at = after now-at family (saidAt file at)
+
+        one-turn : (j : ℕ) → scan v o file spans stop (suc j) at now-at ≡ cond (takesAt v o file stop now-at at n family) (scan v o file spans stop j (at + n) then-at) none
         unfolding scan onFamily
         one-turn j =
             rw (lt-leb stop at l, is-family)
-            (ap (λ (n : ℕ). cond (takesAt v o file stop (stateIn file span m) at n family) (scan v o file spans stop j (at + n) (after (stateIn file span m) family (saidAt file at))) none) (sym span-is))
+            (ap (λ (n : ℕ). cond (takesAt v o file stop now-at at n family) (scan v o file spans stop j (at + n) then-at) none) (sym span-is))
 
-        pub turn-refused : takesAt v o file stop (stateIn file span m) at n family ≡ false → none ≡ scan v o file spans stop (suc stop) first initial
-        turn-refused q = sym (t .same ∙ one-turn (stop - count) ∙ rw q)
+        one-count : (j : ℕ) → tallied v o file spans stop (suc j) at now-at y
+            ≡ cond (takesAt v o file stop now-at at n family) (tallied v o file spans stop j (at + n) then-at (countedOf y (m .rank) (m .id) family (saidAt file at))) none
+        unfolding tallied onFamily
+        one-count j =
+            rw (lt-leb stop at l, is-family)
+            (ap (λ (n : ℕ). cond (takesAt v o file stop now-at at n family) (tallied v o file spans stop j (at + n) then-at (countedOf y (m .rank) (m .id) family (saidAt file at))) none) (sym span-is))
 
-        pub turn-goes : (place : Place) (next : ℕ) → Gone v o file span stop m at n family place next → Turning v o file spans stop span first place next (count + 1)
-        turn-goes place next g =
-            let e : stop - count ≡ suc (stop - (count + 1)) = omega (arith, t .few) in
+        pub turn-refused : takesAt v o file stop now-at at n family ≡ false
+            → (none ≡ scan v o file spans stop (suc stop) first initial) × (none ≡ tallied v o file spans stop (suc stop) first initial noTally)
+        turn-refused q =
+            let e = is-left (t .asked .under) in (
+              sym (t .same ∙ ap (λ (n : ℕ). scan v o file spans stop n at now-at) e ∙ one-turn (t .left - 1) ∙ rw q),
+              sym (t .counts ∙ ap (λ (n : ℕ). tallied v o file spans stop n at now-at y) e ∙ one-count (t .left - 1) ∙ rw q),
+            )
+
+        pub turn-goes : (place : Place) (next : ℕ) (w : Word) → Gone v o file span stop m at n family place next w → (z : Tally) → z ≡ countedOf y (m .rank) (m .id) family (saidOf w)
+            → Turning v o file spans stop span first place next z
+        turn-goes place next w g z z-is =
+            let e = is-left (t .asked .under) in
             let taken = g .taken in
+            let z′ = z-is ∙ ap (countedOf y (m .rank) (m .id) family) (g .said) in
             record {
               asked = g .asked;
-              few = omega (arith, t .few, g .later);
-              same =
-                  t .same
-                  ∙ one-turn (stop - count)
-                  ∙ rw (taken, e, ← g .next-is, ← g .state-is);
+              left = t .left - 1;
+              enough = omega (arith, t .enough, g .later);
+              same = t .same ∙ ap (λ (n : ℕ). scan v o file spans stop n at now-at) e ∙ one-turn (t .left - 1) ∙ rw (taken, ← g .next-is, ← g .state-is);
+              counts = t .counts ∙ ap (λ (n : ℕ). tallied v o file spans stop n at now-at y) e ∙ one-count (t .left - 1) ∙ rw (taken, ← g .next-is, ← g .state-is, ← z′);
+              under = subst (λ (x : Tally). Under x next) (sym z-is) (under-counted y (m .rank) (m .id) (saidOf w) family at next (t .under) (g .later));
             }
 
 pub tried-as : (v : Version) (o : Order) (file : List ℕ) (span stop : ℕ) (m : Place) (at n : ℕ) (family : Family) (r q : Turn) → r ≡ q → Tried v o file span stop m at n family r

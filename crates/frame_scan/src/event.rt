@@ -1,21 +1,17 @@
 // One event of the frames: its family, what it says, and whether it may come.
 ghost use mathlib.Core.Path.{_≡_};
-ghost use mathlib.Core.Bool.{_&&_};
-ghost use Prim.Native.Nat.{_+_, _≤_};
-ghost use lib.Dec.{eqb};
+ghost use Prim.Native.Nat.{_+_, _^_, _≤_, _<_};
 ghost use lib.ListN.{length, getD};
-ghost use Rattle.layout.specs.Columns.{hasFamily};
-ghost use Rattle.layout.specs.Payloads.{recordSize};
 ghost use Rattle.grammar.specs.Machine.{familyOf};
 ghost use Rattle.frame_order.specs.Inner.{orderOf, saidOf};
-ghost use Rattle.frame_scan.specs.Inner.{saidAt, kindOf, Asked, Tried};
+ghost use Rattle.frame_scan.specs.Inner.{saidAt, whoAt, kindOf, sizesIn, Asked, Tried};
+use crate::sizes::fits;
 use format::version::Version;
 use frame_order::order::may;
 use frame_order::place::Place;
 use frame_order::place::Word;
 use frame_order::step::moved;
 use layout::columns::Family;
-use layout::payloads::record_size;
 
 // A code of the frames, or another.
 pub enum Kind {
@@ -63,34 +59,43 @@ fn byte_at(file: &[u8], i: usize) -> u8
     0
 }
 
-// What the event at a place says.
+// Which player the event at a place says, with no id yet.
+fn who_at(file: &[u8], at: usize) -> Word
+    requires { ⌜ at + 5 ≤ length (now file) ⌝ }
+    ensures { λ r. ⌜ r ≡ whoAt (now (file .entry)) at ⌝ }
+{
+    if at + 6 < file.len() {
+        return Word {
+            id: 0,
+            port: file[at + 5] as u32,
+            follower: file[at + 6] as u32,
+        };
+    }
+    let port = byte_at(file, at + 5);
+    Word {
+        id: 0,
+        port: port as u32,
+        follower: 0,
+    }
+}
+
+// What the event at a place says. The id is read last, so that its bytes are one read.
 fn word_at(file: &[u8], at: usize) -> Word
     requires { ⌜ at + 5 ≤ length (now file) ⌝ }
     ensures { λ r. ⌜ saidOf r ≡ saidAt (now (file .entry)) at ⌝ }
 {
-    let id = wire::get_be(file, at + 1, 4);
-    let port = byte_at(file, at + 5);
-    let follower = byte_at(file, at + 6);
-    Word {
-        id: id,
-        port: port,
-        follower: follower,
-    }
-}
-
-// Whether the version has the family, with records of this span.
-fn fits(v: Version, family: Family, span: usize) -> bool
-    ensures { λ r. ⌜ r ≡ (hasFamily v family && eqb span (1 + recordSize family v)) ⌝ }
-{
-    if family.exists(v) {
-        return span == 1 + record_size(family, v);
-    }
-    false
+    let mut w = who_at(file, at);
+    w.id = wire::get_be(file, at + 1, 4);
+    w
 }
 
 // One turn: the event was taken, or it is wrong.
 pub enum Turn {
-    Goes { place: Place, next: usize },
+    Goes {
+        place: Place,
+        next: usize,
+        word: Word,
+    },
     Refused,
 }
 
@@ -98,6 +103,7 @@ pub enum Turn {
 pub fn try_event(
     file: &[u8],
     v: Version,
+    sizes: &[usize],
     any: bool,
     span: usize,
     stop: usize,
@@ -106,10 +112,10 @@ pub fn try_event(
     n: usize,
     family: Family,
 ) -> Turn
-    requires { ⌜ Asked v (now file) span stop m at ⌝ }
+    requires { ⌜ Asked v (now file) span stop m at × (now sizes ≡ sizesIn v) × (n < 2 ^ 32) ⌝ }
     ensures { λ r. ⌜ Tried v (orderOf any) (now (file .entry)) span stop m at n family r ⌝ }
 {
-    if fits(v, family, n) {
+    if fits(v, sizes, family, n) {
         if n <= stop - at {
             let w = word_at(file, at);
             if may(file, v, any, span, m, family, w) {
@@ -118,6 +124,7 @@ pub fn try_event(
                 return Turn::Goes {
                     place: place,
                     next: next,
+                    word: w,
                 };
             }
         }
@@ -128,7 +135,7 @@ pub fn try_event(
 // How many bytes an event of this code has.
 pub fn span_of(spans: &[u32], code: u8) -> usize
     requires { ⌜ length (now spans) ≡ 256 ⌝ }
-    ensures { λ r. ⌜ r ≡ getD (now (spans .entry)) code 0 ⌝ }
+    ensures { λ r. ⌜ (r ≡ getD (now (spans .entry)) code 0) × (r < 2 ^ 32) ⌝ }
 {
     spans[wire::wide(code)] as usize
 }

@@ -4,9 +4,12 @@ ghost use Prim.Native.Nat.{suc, _≤_};
 ghost use lib.ListN.{length};
 ghost use Rattle.grammar.specs.Machine.{initial};
 ghost use Rattle.frame_order.specs.Inner.{orderOf};
-ghost use Rattle.frame_scan.specs.Inner.{scan, ranOf, endsAt};
+ghost use Rattle.frame_scan.specs.Counts.{noTally};
+ghost use Rattle.frame_scan.specs.Inner.{scan, tallied, ranOf, tallyIn, endsAt, tellsAt};
 
 pub mod event;
+pub mod sizes;
+pub mod tally;
 
 use event::Kind;
 use event::Turn;
@@ -18,19 +21,23 @@ use frame_order::place::Place;
 use frame_order::place::is_closed;
 use layout::columns::Family;
 use layout::payloads::record_size;
+use sizes::sizes_of;
+use tally::Tally;
+use tally::counted;
+use tally::nothing;
 
-// The frames are in order and end at a place, or they are wrong.
+// The frames are in order and end at a place, with what was counted, or they are wrong.
 pub enum Ran {
-    Ended { at: usize },
+    Ended { at: usize, tally: Tally },
     Wrong,
 }
 
 // The frames end at a place, where a frame may end there.
-fn ended(v: Version, m: Place, at: usize) -> Ran
-    ensures { λ r. ⌜ ranOf r ≡ endsAt v m at ⌝ }
+fn ended(v: Version, m: Place, at: usize, t: Tally) -> Ran
+    ensures { λ r. ⌜ (ranOf r ≡ endsAt v m at) × (tallyIn r ≡ tellsAt v m t) ⌝ }
 {
     if is_closed(v, m) {
-        return Ran::Ended { at: at };
+        return Ran::Ended { at: at, tally: t };
     }
     Ran::Wrong
 }
@@ -38,8 +45,11 @@ fn ended(v: Version, m: Place, at: usize) -> Ran
 // The frames from a place on, in one pass. Spans are by code: one more than the payloads' sizes, 0 where the table lacks the code.
 pub fn frames(file: &[u8], spans: &[u32], v: Version, any: bool, first: usize, stop: usize) -> Ran
     requires { ⌜ (first ≤ stop) × (stop ≤ length (now file)) × (length (now spans) ≡ 256) ⌝ }
-    ensures { λ r. ⌜ ranOf r ≡ scan v (orderOf any) (now (file .entry)) (now (spans .entry)) stop (suc stop) first initial ⌝ }
+    ensures { λ r.
+        ⌜ (ranOf r ≡ scan v (orderOf any) (now (file .entry)) (now (spans .entry)) stop (suc stop) first initial)
+        × (tallyIn r ≡ tallied v (orderOf any) (now (file .entry)) (now (spans .entry)) stop (suc stop) first initial noTally) ⌝ }
 {
+    let sizes = sizes_of(v);
     let span = 1 + record_size(Family::Pre, v);
     let mut m = Place {
         rank: 8,
@@ -48,16 +58,15 @@ pub fn frames(file: &[u8], spans: &[u32], v: Version, any: bool, first: usize, s
         due: 0,
     };
     let mut at = first;
-    // how many turns were taken: the definition has that many fewer left
-    let mut count: usize = 0;
+    let mut tally = nothing();
     while at < stop {
         let code = file[at];
         let k = kind_of(code);
         let Kind::Frame(family) = k else {
-            return ended(v, m, at);
+            return ended(v, m, at, tally);
         };
         let n = span_of(spans, code);
-        let t = try_event(file, v, any, span, stop, m, at, n, family);
+        let t = try_event(file, v, &sizes[..], any, span, stop, m, at, n, family);
         match t {
             Turn::Refused => {
                 return Ran::Wrong;
@@ -65,12 +74,13 @@ pub fn frames(file: &[u8], spans: &[u32], v: Version, any: bool, first: usize, s
             Turn::Goes {
                 place: place,
                 next: next,
+                word: word,
             } => {
+                tally = counted(tally, m, family, word);
                 m = place;
                 at = next;
-                count += 1;
             }
         }
     }
-    ended(v, m, at)
+    ended(v, m, at, tally)
 }

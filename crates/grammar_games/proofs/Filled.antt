@@ -20,7 +20,9 @@ use Rattle.layout.specs.declared.columns.Family.{Family}
 use Rattle.layout.specs.declared.columns.Family.the-variants.{Pre, Post, FrameStart, Item, FrameEnd, FodPlatform, DreamlandWhispy, StadiumTransformation}
 use Rattle.record.specs.Record.{readBack}
 use Rattle.grammar.specs.Productions.{Frame, rowEvent, frameEvents, framesEvents, endEvent}
-use Rattle.grammar_games.specs.Fill.{into, fill, bodiesIn, bodiesOf}
+use Rattle.columns.specs.Inner.{into}
+use Rattle.columns.proofs.Laws.{into-both}
+use Rattle.grammar_games.specs.Fill.{fill, bodiesIn, bodiesOf}
 use Rattle.grammar_games.proofs.Same.{map-keep}
 
 -- ---- a frame as sections, each of one family
@@ -79,13 +81,6 @@ no-end Post = refl
 no-end FrameEnd = refl
 
 module _ (family : Family) (ws : List ℕ) (stride : ℕ) where
-  into-both : (xs ys : List (List ℕ)) (cells : List ℕ) (row : ℕ) → into ws stride (xs ++ ys) cells row ≡ into ws stride ys (into ws stride xs cells row) (row + length xs)
-  unfolding into
-  into-both [] ys cells row = rw add-zero
-  into-both (x ∷ xs) ys cells row =
-      let e : row + 1 + length xs ≡ row + suc (length xs) = omega arith in
-      into-both xs ys (readBack ws x cells stride row) (row + 1) ∙ ap (λ (n : ℕ). into ws stride ys (into ws stride xs (readBack ws x cells stride row) (row + 1)) n) e
-
   -- the rows that were put, and what is left to do
   abbrev onward : List Ev → List (List ℕ) → List ℕ → ℕ → List ℕ
   onward t xs cells row = fill family ws stride t (into ws stride xs cells row) (row + length xs)
@@ -111,7 +106,7 @@ module _ (family : Family) (ws : List ℕ) (stride : ℕ) where
   then-more : (t : List Ev) (xs ys : List (List ℕ)) (cells : List ℕ) (row : ℕ) → onward t ys (into ws stride xs cells row) (row + length xs) ≡ onward t (xs ++ ys) cells row
   then-more t xs ys cells row =
       let n : row + length xs + length ys ≡ row + length (xs ++ ys) = omega (arith, length-append xs ys) in
-      ap₂ (λ (c : List ℕ) (k : ℕ). fill family ws stride t c k) (sym (into-both xs ys cells row)) n
+      ap₂ (λ (c : List ℕ) (k : ℕ). fill family ws stride t c k) (sym (into-both ws stride xs ys cells row)) n
 
   all-sections : (v : Version) (f : Frame) (gs : List Family) (t : List Ev) (cells : List ℕ) (row : ℕ)
       → fill family ws stride (sections v f gs ++ t) cells row ≡ onward t (picked v f family gs) cells row

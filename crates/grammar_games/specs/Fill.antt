@@ -16,11 +16,6 @@ use Rattle.layout.specs.declared.columns.Family.the-variants.{Pre, Post, FrameS
 use Rattle.record.specs.Record.{readBack}
 use Rattle.grammar.specs.Productions.{Frame}
 
--- rows of bytes into a store, from a row on
-unfoldable pub into : List ℕ → ℕ → List (List ℕ) → List ℕ → ℕ → List ℕ
-into ws stride [] cells row = cells
-into ws stride (b ∷ bs) cells row = into ws stride bs (readBack ws b cells stride row) (row + 1)
-
 -- the loop: each event of the family fills the next row with what stands behind its id
 unfoldable pub fill : Family → List ℕ → ℕ → List Ev → List ℕ → ℕ → List ℕ
 fill family ws stride [] cells row = cells

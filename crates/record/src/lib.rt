@@ -1,8 +1,8 @@
 // One frame record between a lent store of cells and bytes, both ways, by the widths of its columns.
 ghost use mathlib.Core.Path.{_≡_};
-ghost use Prim.Native.Nat.{_+_, _≤_};
+ghost use Prim.Native.Nat.{_+_, _-_, _≤_};
 ghost use lib.ListN.{length, drop};
-ghost use Rattle.wire.specs.Wire.{Room, Wrote};
+ghost use Rattle.wire.specs.Wire.{number, part, Room, Wrote};
 ghost use Rattle.format.specs.File.{eventBytes};
 ghost use Rattle.layout.specs.Columns.{sum};
 ghost use Rattle.record.specs.Record.{playerBytes, recordOf, readBack};
@@ -78,7 +78,27 @@ pub fn put(
     end
 }
 
-// The cells of one row from the bytes at `at`, which stand after a record's head. Answers the place after them.
+// Four bytes as a number, the highest first.
+fn get_four(s: &[u8], at: usize) -> u32
+    requires { ⌜ at + 4 ≤ length (now s) ⌝ }
+    ensures { λ r. ⌜ r ≡ number (part (now (s .entry)) at 4) ⌝ }
+{
+    (s[at] as u32) * 16777216
+        + (s[at + 1] as u32) * 65536
+        + (s[at + 2] as u32) * 256
+        + s[at + 3] as u32
+}
+
+// The number of the width bytes that end at `end`. Four bytes are read, with no test of the width, and those above it are dropped.
+fn get_low(s: &[u8], end: usize, width: usize) -> u32
+    requires { ⌜ (width ≤ 4) × (4 ≤ end) × (end ≤ length (now s)) ⌝ }
+    ensures { λ r. ⌜ r ≡ number (part (now (s .entry)) (end - width) width) ⌝ }
+{
+    let v = get_four(s, end - 4);
+    ((v as u64) % (1u64 << (8 * (width as u64)))) as u32
+}
+
+// The cells of one row from the bytes at `at`, which stand after a record's head, of at least four bytes. Answers the place after them.
 pub fn get(
     payload: &[u8],
     at: usize,
@@ -87,7 +107,7 @@ pub fn get(
     stride: usize,
     first: usize,
 ) -> usize
-    requires { ⌜ InStore (now widths) (length (now cells)) stride first × (at + sum (now widths) ≤ length (now payload)) ⌝ }
+    requires { ⌜ (4 ≤ at) × InStore (now widths) (length (now cells)) stride first × (at + sum (now widths) ≤ length (now payload)) ⌝ }
     ensures { λ r. ⌜ (r ≡ at + sum (now (widths .entry)))
         × (now (cells .exit) ≡ readBack (now (widths .entry)) (drop at (now (payload .entry))) (now (cells .entry)) stride first) ⌝ }
 {
@@ -96,8 +116,8 @@ pub fn get(
     let mut k: usize = 0;
     while k < widths.len() {
         let w = wire::wide(widths[k]);
-        cells[i] = wire::get_be(payload, p, w);
         p += w;
+        cells[i] = get_low(payload, p, w);
         i += stride;
         k += 1;
     }

@@ -9,9 +9,6 @@ use lib.ListN.{length}
 use Rattle.format.specs.declared.version.Version.{Version}
 use Rattle.layout.specs.Columns.{widthsOf}
 use Rattle.layout.specs.declared.columns.Family.{Family}
-use Rattle.de.specs.declared.Walked.{Walked}
-use Rattle.de.specs.declared.Walked.the-variants.{Done}
-use Rattle.slp.specs.declared.answers.SlpWalked.{SlpWalked}
 use Rattle.rollback.specs.Mask as rollback
 use Rattle.rollback.specs.declared.frame.Rollbacks.{Rollbacks}
 use Rattle.rollback.specs.declared.frame.Masked.{Masked}
@@ -20,13 +17,14 @@ use Rattle.game.specs.Stores.{Lent, Stores}
 use Rattle.game.specs.declared.frames.Frames.{Frames}
 use Rattle.append.specs.Run as append
 use Rattle.append.specs.declared.appended.Appended.{Appended}
-use Rattle.slp.specs.declared.answers.SlpAppended.{SlpAppended}
+use Rattle.answers.specs.declared.SlpAppended.{SlpAppended}
 use Rattle.run_rows.specs.Run.{familyOf}
 use Rattle.ser.specs.Write as write
 use Rattle.game.specs.declared.Game.{Game}
 use Rattle.ser.specs.declared.written.Written.{Written}
-use Rattle.slp.specs.declared.answers.SlpWritten.{SlpWritten}
-use Rattle.slp.specs.Answers.{walked, writtenStruct, written, appendedStruct, appendedAs, storeColumns}
+use Rattle.answers.specs.declared.SlpWritten.{SlpWritten}
+use Rattle.answers.specs.Answers.{writtenStruct, written, appendedStruct, appendedAs}
+use Rattle.slp.specs.Columns.{storeColumns}
 use Rattle.slp.specs.Outcomes.{keepOf, MaskOutcome, WriteOutcome, AppendOutcome}
 
 pub mask-outcome : {ids mask scratch ma sa : List ℕ} {keep : Rollbacks} {k number : ℕ} {answer : Masked} →
@@ -48,12 +46,8 @@ pub append-outcome : {f : Frames} {s : Lent} {a b place : ℕ} {out out′ : Lis
     append.RunOutcome f s a b place out w out′ → r ≡ appendedAs w → AppendOutcome f s a b place out r out′
 append-outcome o n = record { answer-is = n ∙ ap appendedStruct (o .answer-is); out-is = o .out-is }
 
-pub walk-done : {events stray place mark : ℕ} {whole : Bool} {w : Walked} →
-    mark ≡ cond whole 1 0 → w ≡ Done events stray whole place →
-    _≡_ {A = SlpWalked} (record { refused = 0; whole = mark; offset = 0; events = events; stray = stray; place = place }) (walked w)
-walk-done {events} {stray} {place} m e = ap (λ n. record { refused = 0; whole = n; offset = 0; events = events; stray = stray; place = place }) m ∙ sym (ap walked e)
-
 -- ---- families by the number of their store
+
 pub no-columns : (v : Version) (n : ℕ) → 7 < n → 0 ≡ storeColumns v n
 no-columns v n h = rw (lt-ltb 7 n h)
 

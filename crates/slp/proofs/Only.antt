@@ -7,8 +7,8 @@ use mathlib.Core.List.{List}
 use Rattle.game.specs.Stores.{Lent, Stores}
 use Rattle.game.specs.declared.frames.Frames.{Frames}
 use Rattle.game.specs.declared.Game.{Game}
-use Rattle.slp.specs.declared.answers.SlpAppended.{SlpAppended}
-use Rattle.slp.specs.declared.answers.SlpWritten.{SlpWritten}
+use Rattle.answers.specs.declared.SlpAppended.{SlpAppended}
+use Rattle.answers.specs.declared.SlpWritten.{SlpWritten}
 use Rattle.slp.specs.Outcomes.{MaskOutcome, WriteOutcome, AppendOutcome}
 
 pub only-mask : {ids mask scratch m m′ s s′ : List ℕ} {keep n n′ : ℕ} →

@@ -14,9 +14,9 @@ use Rattle.ser.specs.Write.{answered, left, refusal, file}
 use Rattle.append.specs.Run.{runBytes, runRefusal, appended, leftAt}
 use Rattle.game.specs.declared.Game.{Game}
 use Rattle.game.specs.declared.frames.Frames.{Frames}
-use Rattle.slp.specs.declared.answers.SlpAppended.{SlpAppended}
-use Rattle.slp.specs.declared.answers.SlpWritten.{SlpWritten}
-use Rattle.slp.specs.Answers.{written, appendedAs}
+use Rattle.answers.specs.declared.SlpAppended.{SlpAppended}
+use Rattle.answers.specs.declared.SlpWritten.{SlpWritten}
+use Rattle.answers.specs.Answers.{written, appendedAs}
 
 -- 0 keeps an id's first frame, every other number its last
 abbrev pub keepOf : ℕ → Rollbacks

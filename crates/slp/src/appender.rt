@@ -2,8 +2,8 @@
 ghost use Prim.Native.Nat.{_+_};
 ghost use Rattle.game.specs.Stores.{cells, offsets, lent};
 ghost use Rattle.slp.specs.Outcomes.{AppendOutcome};
-use super::answers::SlpAppended;
-use super::answers::appended_numbers;
+use answers::SlpAppended;
+use answers::appended_numbers;
 use append::run::write_frame;
 use append::run::write_frames;
 use game::frames::Frames;

@@ -1,11 +1,11 @@
 // What C and Rust call: numbers, slices (a pointer, then a count of elements) and structs by value. include/slp.h says it in C's words.
-pub mod answers;
 pub mod appender;
-pub mod columns;
 pub mod frame_rows;
 pub mod mask;
 pub mod metadata;
+pub mod opener;
 pub mod reader;
 pub mod reserve;
 pub mod runs;
+pub mod store_columns;
 pub mod writer;

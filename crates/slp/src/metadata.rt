@@ -2,7 +2,7 @@
 ghost use mathlib.Core.Path.{_≡_};
 ghost use Rattle.map.specs.Write.{Outcome};
 ghost use Rattle.map_reader.specs.Answer.{ReadOutcome};
-use super::answers::SlpWritten;
+use answers::SlpWritten;
 
 #[repr(C)]
 pub struct SlpMapRead {

@@ -2,11 +2,11 @@
 ghost use mathlib.Core.Path.{_≡_};
 ghost use Rattle.head.specs.Step.{stepOf};
 ghost use Rattle.de.specs.Walk.{walkOf};
-ghost use Rattle.slp.specs.Answers.{stepped, walked};
-use super::answers::SlpStep;
-use super::answers::SlpWalked;
-use super::answers::step_numbers;
-use super::answers::walk_numbers;
+ghost use Rattle.answers.specs.Answers.{stepped, walked};
+use answers::SlpStep;
+use answers::SlpWalked;
+use answers::step_numbers;
+use answers::walk_numbers;
 
 #[no_mangle]
 pub extern "C" fn slp_step_at(file: &[u8], place: usize) -> SlpStep

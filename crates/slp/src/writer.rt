@@ -1,8 +1,8 @@
 // The writer.
 ghost use Rattle.game.specs.Stores.{cells, offsets, lent, stores};
 ghost use Rattle.slp.specs.Outcomes.{WriteOutcome};
-use super::answers::SlpWritten;
-use super::answers::written_numbers;
+use answers::SlpWritten;
+use answers::written_numbers;
 use game::Game;
 
 #[no_mangle]

@@ -4,6 +4,7 @@ use games::{adapt, Case};
 use peppi::{frame::Rollbacks, game::immutable::Game};
 
 use crate::{
+	back,
 	counts::Counts,
 	original::{self, run},
 	rows, runs,
@@ -24,12 +25,12 @@ fn kept(buffer: &[u8], from: usize) -> bool {
 
 /// Compares everything of one game; says the first difference of each kind.
 pub fn check(case: &Case, counts: &mut Counts) -> Vec<String> {
-	check_kinds(case, counts, &[check_file, check_masks, rows::check, runs::check])
+	check_kinds(case, counts, &[check_file, check_masks, rows::check, runs::check, back::check])
 }
 
 /// Without the single calls for rows: each of them judges the whole game anew, which takes long in a large one, or in many. All rows by runs.
 pub fn check_writing(case: &Case, counts: &mut Counts) -> Vec<String> {
-	check_kinds(case, counts, &[check_file, check_masks, runs::check])
+	check_kinds(case, counts, &[check_file, check_masks, runs::check, back::check])
 }
 
 type Kind = fn(&Case, &Game, &mut Counts) -> Option<String>;

@@ -10,5 +10,12 @@ pub struct Counts {
 	pub refused_masks: usize,
 	pub rows: usize,
 	pub run_rows: usize,
+	/// games that came back as they were generated, and those that were made to
+	pub back_as_they_are: usize,
+	pub back_made: usize,
+	/// games that need not come back: refused, or read all the same; and why they need not, by the reasons' numbers
+	pub left_refused: usize,
+	pub left_read: usize,
+	pub left_out: [usize; 4],
 	pub differences: usize,
 }

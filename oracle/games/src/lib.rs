@@ -10,6 +10,9 @@ pub mod adapt;
 pub mod generate;
 pub mod shaped;
 
+pub mod lent;
+
 pub mod eights;
+pub mod returning;
 
 pub use case::Case;

@@ -37,8 +37,7 @@ pub fn game(shape: Shape) -> Case {
 	input.port_count = shape.players;
 	(0..shape.players).for_each(|p| input.ports[p] = PortColumn { port: p as u8, ..Default::default() });
 	input.counts = Counts { frames, ..Default::default() };
-	// one frame in eight is played again
-	case.ids = (0..frames).map(|i| (i as i32 - 123 - i32::from(i % 8 == 7)) as u32).collect();
+	case.ids = ids(version, frames);
 	case.starts = r.cells(&columns::widths(columns::START, version), frames);
 	case.ends = r.cells(&columns::widths(columns::END, version), frames);
 	case.pres = (0..shape.players).flat_map(|_| r.cells(&columns::widths(columns::PRE, version), frames)).collect();
@@ -47,6 +46,12 @@ pub fn game(shape: Shape) -> Case {
 	start(&mut case);
 	case.template = r.bytes(columns::block_len(version));
 	case
+}
+
+/// One frame in eight is played again: the one before it, or, where a frame has no start of its own, that before, so that the id changes.
+pub fn ids(version: (u8, u8), frames: usize) -> Vec<u32> {
+	let back = if version >= (2, 2) { 1 } else { 2 };
+	(0..frames).map(|i| (i as i32 - 123 - if i % 8 == 7 { back } else { 0 }) as u32).collect()
 }
 
 fn families(r: &mut Random, case: &mut Case, shape: Shape) {

@@ -1,8 +1,8 @@
 //! Slippi replays, written and read: safe calls to `libslp.a`.
 //!
-//! Every call takes every input, allocates nothing ([`write_map`] and [`read_map`] do, for a [`Map`] and its entries) and answers with a refusal
-//! number ([`refusal_words`] says why) or its result. A refused call changes no byte of the slices that are lent to it. Set `SLP_LIB_DIR` to the
-//! directory of `libslp.a` when you build.
+//! Every call takes every input, allocates nothing ([`write_map`] and [`read_map`] do, for a [`Map`] and its entries, and [`read`] for a [`Replay`]
+//! and its columns) and answers with a refusal number ([`refusal_words`] says why) or its result. A refused call changes no byte of the slices that
+//! are lent to it. Set `SLP_LIB_DIR` to the directory of `libslp.a` when you build.
 //!
 //! ```
 //! // A game of version 0.1.0 without frames and without an end: the start block alone.
@@ -25,6 +25,7 @@
 
 // Each of these uses those before it alone.
 mod game;
+mod lengths;
 mod records;
 mod refusals;
 mod stores;
@@ -41,12 +42,16 @@ mod room;
 pub mod rows;
 mod write;
 
+mod read;
+
 pub use append::{write_frame, write_frames};
 pub use columns::Family;
 pub use game::*;
+pub use lengths::{Lengths, Places, Tail};
 pub use masks::{rollbacks, scratch_len, Rollbacks};
 pub use metadata::{read_entries, read_map, write_entries, write_map, BadBody, Entries, Map, Value, MAX_BODY};
 pub use plan::Plan;
+pub use read::{measure, read, read_into, Measured, Replay, Space};
 pub use reader::{first_place, step_at, walk, Refused, Step, Walked};
 pub use refusals::refusal_words;
 pub use room::{room, MAX_ROOM};

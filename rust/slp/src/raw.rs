@@ -2,6 +2,7 @@
 
 use crate::{
 	game::{Frames, Game, Version},
+	lengths::{Lengths, Places},
 	plan::Plan,
 	records,
 };
@@ -55,6 +56,27 @@ pub struct MapRead {
 }
 
 #[repr(C)]
+pub struct Measured {
+	pub refused: u8,
+	pub offset: usize,
+	pub frames: Frames,
+	pub codes_given: u8,
+	pub actual_size: u32,
+	pub lengths: Lengths,
+	pub places: Places,
+}
+
+#[repr(C)]
+pub struct Opened {
+	pub refused: u8,
+	pub offset: usize,
+	pub game: Game,
+	pub places: Places,
+}
+
+const _: () = assert!(std::mem::size_of::<Measured>() == 336 && std::mem::size_of::<Opened>() == 1640);
+
+#[repr(C)]
 pub struct Answer<T> {
 	pub refused: u8,
 	pub row: T,
@@ -84,6 +106,43 @@ extern "C" {
 	pub fn slp_step_at(file: *const u8, file_len: usize, place: usize) -> Step;
 
 	pub fn slp_walk(file: *const u8, file_len: usize) -> Walked;
+
+	pub fn slp_measure(file: *const u8, file_len: usize) -> Measured;
+
+	pub fn slp_read(
+		file: *const u8,
+		file_len: usize,
+		ids: *mut u32,
+		ids_len: usize,
+		starts: *mut u32,
+		starts_len: usize,
+		pres: *mut u32,
+		pres_len: usize,
+		posts: *mut u32,
+		posts_len: usize,
+		ends: *mut u32,
+		ends_len: usize,
+		items: *mut u32,
+		items_len: usize,
+		fods: *mut u32,
+		fods_len: usize,
+		whispys: *mut u32,
+		whispys_len: usize,
+		stadiums: *mut u32,
+		stadiums_len: usize,
+		item_offsets: *mut u32,
+		item_offsets_len: usize,
+		fod_offsets: *mut u32,
+		fod_offsets_len: usize,
+		whispy_offsets: *mut u32,
+		whispy_offsets_len: usize,
+		stadium_offsets: *mut u32,
+		stadium_offsets_len: usize,
+		presence: *mut u8,
+		presence_len: usize,
+		codes: *mut u8,
+		codes_len: usize,
+	) -> Opened;
 
 	pub fn slp_room(plan: Plan) -> Reserved;
 

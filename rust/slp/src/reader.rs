@@ -2,7 +2,7 @@
 
 use crate::raw;
 
-/// A reader's refusal, 14 to 17, and the file offset that it names.
+/// A reader's refusal: 14 to 17 with the file offset that they name; from [`read`](crate::read) also 1, 2, 12 and 19, with offset 0.
 #[derive(Clone, Copy, Debug, PartialEq, Eq)]
 pub struct Refused {
 	pub number: u8,

@@ -21,7 +21,7 @@ const WORDS: [&str; 24] = [
 	"an event whose code is not in the table of payload sizes",
 	"an event that runs past the end of the event data",
 	"",
-	"",
+	"not a replay that can be read into columns",
 	"a map more than 8 deep in the metadata",
 	"a key or text of over 255 bytes in the metadata",
 	"a key twice in one map of the metadata",

@@ -47,5 +47,6 @@ fn every_number_has_words() {
 	let words: Vec<&str> = (0..=18).map(slp::refusal_words).collect();
 	let unknown = words[18];
 	assert!(words[..18].iter().all(|&w| w != unknown));
+	assert!((19..=23).all(|number| slp::refusal_words(number) != unknown));
 	assert_eq!(slp::refusal_words(255), unknown);
 }

@@ -81,23 +81,6 @@ static size_t mark_card(const pair *p, const uint8_t *file, const uint8_t *other
 	return touched;
 }
 
-/* Whether a slot's player is in a frame. */
-static int is_present(const input *in, size_t slot, size_t frame)
-{
-	const slp_frames *f = &in->game.frames;
-	const uint8_t *bits = in->stores.presence.p;
-	for (size_t i = 0; i < f->port_count; i++) {
-		const slp_port_column *c = &f->ports[i];
-		for (size_t player = 0; player < (c->follower ? 2 : 1); player++, slot--) {
-			size_t len = player ? c->follower_presence : c->leader_presence;
-			if (slot == 0)
-				return len == 0 || (bits[frame / 8] >> frame % 8 & 1);
-			bits += len;
-		}
-	}
-	return 0;
-}
-
 /* How many records of present players have a changed cell. */
 static size_t changed_records(const pair *p, size_t store, family k)
 {

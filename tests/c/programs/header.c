@@ -27,6 +27,12 @@ _Static_assert(sizeof(slp_match) == 80 && sizeof(slp_start) == 1408 && offsetof(
 _Static_assert(sizeof(slp_end) == 11, "slp_end");
 _Static_assert(sizeof(slp_game) == 1584 && offsetof(slp_game, start) == 152 && offsetof(slp_game, end) == 1560 &&
                offsetof(slp_game, double_end) == 1571 && offsetof(slp_game, actual_size) == 1576, "slp_game");
+_Static_assert(sizeof(slp_places) == 40 && offsetof(slp_places, tail) == 16 && offsetof(slp_places, metadata_at) == 24, "slp_places");
+_Static_assert(sizeof(slp_lengths) == 120 && offsetof(slp_lengths, item_offsets) == 72 && offsetof(slp_lengths, codes) == 112, "slp_lengths");
+_Static_assert(sizeof(slp_measured) == 336 && offsetof(slp_measured, frames) == 16 && offsetof(slp_measured, codes_given) == 168 &&
+               offsetof(slp_measured, actual_size) == 172 && offsetof(slp_measured, lengths) == 176 && offsetof(slp_measured, places) == 296, "slp_measured");
+_Static_assert(sizeof(slp_opened) == 1640 && offsetof(slp_opened, game) == 16 && offsetof(slp_opened, places) == 1600, "slp_opened");
+_Static_assert(SLP_FILE_TAIL_NONE == 0 && SLP_FILE_TAIL_METADATA == 1 && SLP_FILE_TAIL_ODD == 2, "tails");
 _Static_assert(sizeof(slp_plan) == 80 && offsetof(slp_plan, block) == 8 && offsetof(slp_plan, counts) == 24 && offsetof(slp_plan, codes) == 64 &&
                offsetof(slp_plan, metadata) == 72, "slp_plan");
 _Static_assert(sizeof(slp_reserved) == 16 && offsetof(slp_reserved, bytes) == 8, "slp_reserved");
@@ -39,7 +45,7 @@ _Static_assert(sizeof(slp_data) == 420 && sizeof(slp_port_data) == 844 && sizeof
                offsetof(slp_frame, start) == 3392, "slp_frame");
 _Static_assert(sizeof(slp_frame_answer) == 3744 && sizeof(slp_pre_answer) == 204 && sizeof(slp_item_answer) == 180, "answers");
 
-_Static_assert(SLP_OK == 0 && SLP_SHORT_OUTPUT == 12 && SLP_BAD_PLACE == 17 && SLP_TOO_DEEP == 20 && SLP_BAD_BODY == 23, "refusals");
+_Static_assert(SLP_OK == 0 && SLP_SHORT_OUTPUT == 12 && SLP_BAD_PLACE == 17 && SLP_BAD_EVENTS == 19 && SLP_TOO_DEEP == 20 && SLP_BAD_BODY == 23, "refusals");
 _Static_assert(SLP_LAST_FRAME_ID - SLP_FIRST_FRAME_ID + 1 == SLP_MAX_FRAMES, "frame ids");
 _Static_assert(SLP_EVENT_MESSAGE_SPLITTER == 16 && SLP_EVENT_PAYLOADS == 53 && SLP_EVENT_STADIUM_TRANSFORMATION == 65, "events");
 
@@ -72,9 +78,38 @@ static void stores_in_order(void)
 	CHECK_EQ(slp_post_row(g.frames, SLP_STORES(&s), 1, 0).refused, 13);
 }
 
+/* SLP_SPACE in the order of slp_read, and memory for all stores cut into them: in a frame of 3.18.0 with an item each store has another length or
+ * other cells. */
+static void space_in_order(void)
+{
+	static const uint32_t ids[1] = { 5 }, starts[2] = { 6, 7 }, pres[19] = { 8 }, posts[32] = { 9 }, ends[1] = { 10 }, items[16] = { 11 },
+	                      one[2] = { 0, 1 }, none[2];
+	static const uint8_t block[760] = { [137] = 3, [173] = 3, [209] = 3 };
+	slp_game g = { .frames = { .version = { 3, 18, 0 }, .counts = { .frames = 1, .items = 1 }, .port_count = 1 } };
+	g.start = (slp_start){ .is_pal = { 1, 0 }, .is_frozen_ps = { 1, 0 }, .scene = { 1, 0, 0 }, .language = { 1, 0 } };
+	g.start.match_info.given = 1;
+	slp_stores s = { .ids = { ids, 1 }, .starts = { starts, 2 }, .pres = { pres, 19 }, .posts = { posts, 32 }, .ends = { ends, 1 }, .items = { items, 16 },
+	                 .item_offsets = { one, 2 }, .fod_offsets = { none, 2 }, .whispy_offsets = { none, 2 }, .stadium_offsets = { none, 2 } };
+	uint8_t out[1100], again[1100], bytes[1];
+	uint32_t cells[100];
+	slp_written w = slp_write_game(out, sizeof out, &g, &s, (slp_bytes){ block, 760 }, (slp_bytes){ 0 }, (slp_bytes){ 0 });
+	slp_measured m = slp_measure(out, w.len);
+	CHECK_EQ(m.refused, 0);
+	CHECK_EQ(slp_space_cells(&m.lengths), 1 + 2 + 19 + 32 + 1 + 16 + 4 * 2);
+	CHECK_EQ(slp_space_bytes(&m.lengths), 1);
+	slp_space space = slp_space_in(&m.lengths, cells, bytes);
+	slp_opened o = slp_read_game(out, w.len, &space);
+	CHECK_EQ(o.refused, 0);
+	CHECK(cells[0] == 5 && cells[1] == 6 && cells[3] == 8 && cells[22] == 9 && cells[54] == 10 && cells[55] == 11 && cells[72] == 1 && bytes[0] == 1);
+	CHECK_EQ(slp_save(again, w.len, &o, &space, out).len, w.len);
+	space.stadium_offsets.len--;
+	CHECK_EQ(slp_read(out, w.len, SLP_SPACE(&space)).refused, 12);
+}
+
 int main(int argc, char **argv)
 {
 	begin("header", argc, argv);
 	test("stores in order", stores_in_order);
+	test("space in order", space_in_order);
 	return finish();
 }

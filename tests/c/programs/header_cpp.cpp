@@ -5,6 +5,7 @@
 
 static_assert(sizeof(slp_game) == 1584, "slp_game");
 static_assert(sizeof(slp_plan) == 80 && sizeof(slp_reserved) == 16, "slp_plan");
+static_assert(sizeof(slp_measured) == 336 && sizeof(slp_opened) == 1640, "columns back");
 static_assert(sizeof(slp_step) == 48 && sizeof(slp_walked) == 40 && sizeof(slp_written) == 16, "answers");
 
 int main()
@@ -24,7 +25,12 @@ int main()
 	uint8_t refused = slp_rollbacks(ids, 2, SLP_EXCEPT_LAST, mask, 2, scratch, sizeof scratch);
 	slp_frame_answer row = slp_frame_row(game.frames, SLP_STORES(&stores), 0);
 	slp_reserved room = slp_room(slp_plan_of(&game, sizeof block, 0, 0));
-	bool ok = w.refused == 0 && w.len == 351 && k.whole == 1 && k.events == 1 && s.kind == SLP_STEP_EVENT && s.next == 350 && refused == 0 &&
+	slp_measured m = slp_measure(out, w.len);
+	slp_space space = slp_space_in(&m.lengths, NULL, NULL);
+	slp_opened o = slp_read_game(out, w.len, &space);
+	static uint8_t again[351];
+	bool back = m.refused == 0 && o.refused == 0 && slp_save(again, sizeof again, &o, &space, out).len == 351;
+	bool ok = back && w.refused == 0 && w.len == 351 && k.whole == 1 && k.events == 1 && s.kind == SLP_STEP_EVENT && s.next == 350 && refused == 0 &&
 	          mask[0] == 1 && mask[1] == 0 && row.refused == 13 && room.refused == 0 && room.bytes == 367 &&
 	          slp_columns(game.frames.version, SLP_FAMILY_PRE) == 14;
 	std::printf("header_cpp: %s\n", ok ? "1 passed (1 checks)" : "0 passed, 1 failed");

@@ -8,11 +8,13 @@
 #include "check.h"
 #include "made.h"
 #include "model.h"
+#include "open.h"
 
 enum { THREADS = 4, GAMES = 12, STACK = 1 << 20, PAINT = 0xc7, STACK_LIMIT = 64 * 1024 };
 
 static made games[GAMES];
 static model_file files[GAMES];
+static slp_measured measures[GAMES];
 
 /* One thread's work, and how many answers were wrong. */
 typedef struct {
@@ -22,9 +24,9 @@ typedef struct {
 static void make_games(void)
 {
 	for (size_t i = 0; i < GAMES; i++) {
-		plan p = i ? random_plan(30) : rich_plan();
-		games[i] = make_game(&p);
+		games[i] = make_returning(i ? random_plan(30) : rich_plan());
 		files[i] = model_write(&games[i].in);
+		measures[i] = model_measure(files[i].bytes, files[i].len);
 	}
 }
 
@@ -36,7 +38,23 @@ static void free_games(void)
 	}
 }
 
-/* Writes a game, walks its file, makes its mask: whether all is as the model has it. */
+/* Reads a game back from its file and saves it again, over the old output: whether it is the same. */
+static int saved_again(size_t i, uint8_t *out)
+{
+	const model_file *f = &files[i];
+	const slp_lengths *n = &measures[i].lengths;
+	uint32_t *cells = malloc(4 * slp_space_cells(n) + 1);
+	uint8_t *bytes = malloc(slp_space_bytes(n) + 1);
+	slp_space space = slp_space_in(n, cells, bytes);
+	memset(out, 0, f->len);
+	slp_opened o = slp_read_game(f->bytes, f->len, &space);
+	int same = !o.refused && slp_save(out, f->len, &o, &space, f->bytes).len == f->len && memcmp(out, f->bytes, f->len) == 0;
+	free(cells);
+	free(bytes);
+	return same;
+}
+
+/* Writes a game, walks its file, reads it back, makes its mask: whether all is as the model has it. */
 static int one_turn(size_t i, uint8_t *out)
 {
 	const input *in = &games[i].in;
@@ -51,6 +69,8 @@ static int one_turn(size_t i, uint8_t *out)
 	uint8_t mask[64], scratch[256];
 	uint8_t n = slp_rollbacks(in->stores.ids.p, in->stores.ids.len, SLP_EXCEPT_LAST, mask, sizeof mask, scratch, sizeof scratch);
 	if (in->stores.ids.len && slp_frame_row(in->game.frames, SLP_STORES(&in->stores), in->stores.ids.len - 1).refused)
+		return 0;
+	if (slp_measure(f->bytes, f->len).lengths.posts != measures[i].lengths.posts || !saved_again(i, out))
 		return 0;
 	return k.events == f->events && k.whole && s.kind == SLP_STEP_ENDS && n == 0;
 }

@@ -208,6 +208,69 @@ made make_game(const plan *p)
 	return m;
 }
 
+/* ---- games that come back */
+
+int is_present(const input *in, size_t slot, size_t frame)
+{
+	const uint8_t *bits = in->stores.presence.p;
+	for (size_t p = 0, k = 0; p < in->game.frames.port_count; p++) {
+		const slp_port_column *c = &in->game.frames.ports[p];
+		const size_t lens[2] = { c->leader_presence, c->follower_presence };
+		for (size_t f = 0; f < (c->follower ? 2u : 1u); f++, k++) {
+			if (k == slot)
+				return lens[f] == 0 || (bits[frame / 8] >> frame % 8 & 1);
+			bits = lens[f] ? bits + lens[f] : bits;
+		}
+	}
+	return 0;
+}
+
+static int is_empty(const input *in, size_t frame)
+{
+	for (size_t slot = 0; slot < 8; slot++)
+		if (is_present(in, slot, frame))
+			return 0;
+	return 1;
+}
+
+static void sort_ports(slp_frames *f)
+{
+	for (size_t i = 0; i < f->port_count; i++)
+		for (size_t j = 0; j < i; j++)
+			if (f->ports[i].port < f->ports[j].port) {
+				uint8_t port = f->ports[i].port;
+				f->ports[i].port = f->ports[j].port;
+				f->ports[j].port = port;
+			}
+}
+
+/* Where there is no FrameStart, a frame shows by its players and by its id. */
+static void tell_frames_apart(made *m)
+{
+	for (size_t i = 0; i < m->in.game.frames.counts.frames; i++) {
+		if (i && m->cells[0][i] == m->cells[0][i - 1])
+			m->cells[0][i]++;
+		if (is_empty(&m->in, i))
+			m->presence[i / 8] |= (uint8_t)(1 << i % 8);
+	}
+}
+
+made make_returning(plan p)
+{
+	int starts = has_family(FRAME_START, p.version);
+	if (!starts && p.ports == 0)
+		p.frames = 0;
+	made m = make_game(&p);
+	sort_ports(&m.in.game.frames);
+	for (size_t n = 0; n < 4; n++)
+		if (!m.in.game.start.seats[n].given)
+			m.block[101 + 36 * n] = 3;
+	if (!starts)
+		tell_frames_apart(&m);
+	m.whole = m.in;
+	return m;
+}
+
 void unmake(made *m)
 {
 	for (size_t k = 0; k < CELL_STORES; k++)

@@ -27,6 +27,11 @@ typedef struct {
 } made;
 
 made make_game(const plan *p);
+/* A game that comes back from its file: ports ascend, seats that are not given have type 3 in the template, and before 2.2 the id changes from frame to
+ * frame and in each somebody is. */
+made make_returning(plan p);
+/* Whether a slot's player is in a frame. */
+int is_present(const input *in, size_t slot, size_t frame);
 void unmake(made *m);
 plan random_plan(size_t most_frames);
 /* One of the versions at which something changes, or near one. */

@@ -1,11 +1,12 @@
--- `frame_scan::frames` meets its contract. The invariant: the answer is that of what is left.
+-- `frame_scan::frames` meets its contract. The invariant: the answers are those of what is left.
 -- Assumes nothing.
 use borrow.Author.Needs.{needs}
 use mathlib.Core.Path.{refl, sym, ap, _∙_}
-use Prim.Native.Nat.{_+_, _-_}
+use Prim.Native.Nat.{_+_, _-_, _^_}
 use native.Mathlib.Omega.{arith}
-use lib.ListN.{getD}
+use lib.ListN.{length, getD}
 use Rattle.frame_order.specs.Inner.{orderOf}
+use Rattle.frame_scan.proofs.Counting.{under-to}
 use Rattle.frame_scan.proofs.Turns.{Turning, turn-first, turn-end, turn-other, turn-refused, turn-goes, tried-as}
 use Rattle.frame_scan.specs.declared.event.Turn.the-variants.{Goes, Refused}
 use Rattle.frame_scan.proofs.frames.Statement.{statement}
@@ -16,13 +17,19 @@ use Rattle.frame_scan.proofs.ended.Reads as ended-reads
 use Rattle.frame_scan.proofs.event.kind_of.Reads as kind-of-reads
 use Rattle.frame_scan.proofs.event.span_of.Reads as span-of-reads
 use Rattle.frame_scan.proofs.event.try_event.Reads as try-event-reads
+use Rattle.frame_scan.proofs.sizes.sizes_of.Reads as sizes-of-reads
+use Rattle.frame_scan.proofs.tally.counted.Reads as counted-reads
+use Rattle.frame_scan.proofs.tally.nothing.Reads as nothing-reads
 use Rattle.layout.proofs.payloads.record_size.Reads as record-size-reads
 
 abbrev Inv-loop : tie.InvT-loop
-Inv-loop file spans v any first stop span m₀ at₀ count₀ m at count = Turning v (orderOf any) file spans stop span first m at count
+Inv-loop file spans v any first stop sizes span m₀ at₀ tally₀ m at tally = Turning v (orderOf any) file spans stop span first m at tally
 
 abbrev μ-loop : tie.MeasureT-loop
-μ-loop file spans v any first stop span m₀ at₀ count₀ m at count = stop - at
+μ-loop file spans v any first stop sizes span m₀ at₀ tally₀ m at tally = stop - at
+
+sizes-of-requires : tie.Need-sizes-of-requires Inv-loop μ-loop
+sizes-of-requires c κs = tt
 
 record-size-requires : tie.Need-record-size-requires Inv-loop μ-loop
 record-size-requires c κs = tt
@@ -30,11 +37,15 @@ record-size-requires c κs = tt
 add-span : tie.Need-add-span Inv-loop μ-loop
 add-span c = search needs
 
+nothing-requires : tie.Need-nothing-requires Inv-loop μ-loop
+nothing-requires c κs = tt
+
 loop-holds : tie.Need-loop-holds Inv-loop μ-loop
 loop-holds c =
-    let a = c .before .before .before .args in
-    let h = c .before .before .before .pre in
-    turn-first (a .v) (orderOf (a .any)) (a .file .now) (a .spans .now) (a .stop) _ (a .first) (h .0) (h .1) (ap (λ n. 1 + n) (c .record-size .ensures .0))
+    let a = c .before .before .before .before .before .args in
+    let h = c .before .before .before .before .before .pre in
+    turn-first (a .v) (orderOf (a .any)) (a .file .now) (a .spans .now) (a .stop) _ (a .first) (h .0) (h .1) (ap (λ n. 1 + n) (c .before .record-size .ensures .0)) (c .nothing .result)
+    (c .nothing .ensures)
 
 shared-slice-read-code : tie.Need-shared-slice-read-code Inv-loop μ-loop
 shared-slice-read-code c = omega (arith, c .before .before .loop .inv .asked .long)
@@ -53,75 +64,94 @@ ended-requires c κs = tt
 
 returns : tie.Need-returns Inv-loop μ-loop
 returns c =
-    let a = c .before .before .before .before .before .before .before .before .before .before .args in
+    let a = c .before .before .before .before .before .before .before .before .before .before .before .before .args in
     let l = c .before .before .before .before .before .before .loop in
     let code = getD (a .file .now) (l .at) 0 in
-    c .ended .ensures ∙ turn-other (a .v) (orderOf (a .any)) (a .file .now) (a .spans .now) (a .stop) _ (a .first) (l .m) (l .at) (l .count) (l .inv) (omega arith) code refl
-    (sym (c .before .before .before .kind-of .ensures) ∙ c .before .enum-told .given .1)
+    let q =
+    turn-other (a .v) (orderOf (a .any)) (a .file .now) (a .spans .now) (a .stop) _ (a .first) (l .m) (l .at) (l .tally) (l .inv) (omega arith) code refl
+    (sym (c .before .before .before .kind-of .ensures) ∙ c .before .enum-told .given .1) in
+    (c .ended .ensures .0 ∙ q .0, c .ended .ensures .1 ∙ q .1)
 
 span-of-requires : tie.Need-span-of-requires Inv-loop μ-loop
-span-of-requires c κs = c .before .before .before .before .before .before .before .before .before .before .pre .2
+span-of-requires c κs = c .before .before .before .before .before .before .before .before .before .before .before .before .pre .2
+
+slice-aggregate-try-event : tie.Need-slice-aggregate-try-event Inv-loop μ-loop
+slice-aggregate-try-event c = sym (ap length (c .before .before .before .before .before .before .before .before .before .before .before .sizes-of .ensures))
 
 try-event-requires : tie.Need-try-event-requires Inv-loop μ-loop
-try-event-requires c κs = c .before .before .before .before .before .before .before .loop .inv .asked
+try-event-requires c κs = (c .before .before .before .before .before .before .before .before .loop .inv .asked, c .before .before .before .before .before .before .before .before .before .before .before .sizes-of .ensures, c .before .span-of .ensures .1)
 
 enum-told-2 : tie.Need-enum-told-2 Inv-loop μ-loop
 enum-told-2 c = search needs
 
 returns-2 : tie.Need-returns-2 Inv-loop μ-loop
 returns-2 c =
-    let a = c .before .before .before .before .before .before .before .before .before .before .before .before .before .before .args in
-    let l = c .before .before .before .before .before .before .before .before .before .before .loop in
+    let a = c .before .before .before .before .before .before .before .before .before .before .before .before .before .before .before .before .before .args in
+    let l = c .before .before .before .before .before .before .before .before .before .before .before .loop in
     let code = getD (a .file .now) (l .at) 0 in
-    let k = c .before .before .before .before .before .k .given in
-    let kind = sym (c .before .before .before .before .before .before .before .kind-of .ensures) ∙ k .1 in
-    let n = c .before .before .before .span-of in
+    let k = c .before .before .before .before .before .before .k .given in
+    let kind = sym (c .before .before .before .before .before .before .before .before .kind-of .ensures) ∙ k .1 in
+    let n = c .before .before .before .before .span-of in
     let e = c .before .before .try-event in
-    turn-refused (a .v) (orderOf (a .any)) (a .file .now) (a .spans .now) (a .stop) _ (a .first) (l .m) (l .at) (l .count) (l .inv) (omega arith) code refl (k .0 .0) kind
-    (n .result) (n .ensures)
+    turn-refused (a .v) (orderOf (a .any)) (a .file .now) (a .spans .now) (a .stop) _ (a .first) (l .m) (l .at) (l .tally) (l .inv) (omega arith) code refl (k .0 .0) kind
+    (n .result) (n .ensures .0)
     (tried-as (a .v) (orderOf (a .any)) (a .file .now) _ (a .stop) (l .m) (l .at) (n .result) (k .0 .0) (e .result) Refused (c .enum-told2 .given .1) (e .ensures))
 
 enum-known-t : tie.Need-enum-known-t Inv-loop μ-loop
 enum-known-t c = search needs
 
-add-count : tie.Need-add-count Inv-loop μ-loop
-add-count c = omega (arith, c .before .before .before .before .before .before .before .before .before .before .before .loop .inv .few)
+counted-requires : tie.Need-counted-requires Inv-loop μ-loop
+counted-requires c κs =
+    let a = c .before .before .before .before .before .before .before .before .before .before .before .before .before .before .before .before .before .before .args in
+    let l = c .before .before .before .before .before .before .before .before .before .before .before .before .loop in
+    let code = getD (a .file .now) (l .at) 0 in
+    let k = c .before .before .before .before .before .before .before .k .given in
+    let kind = sym (c .before .before .before .before .before .before .before .before .before .kind-of .ensures) ∙ k .1 in
+    let n = c .before .before .before .before .before .span-of in
+    let e = c .before .before .before .try-event in
+    let t = c .before .t .given in
+    let g =
+    tried-as (a .v) (orderOf (a .any)) (a .file .now) _ (a .stop) (l .m) (l .at) (n .result) (k .0 .0) (e .result) (Goes (t .0 .0) (t .0 .1 .0) (t .0 .1 .1 .0)) (t .1) (e .ensures) in
+    (under-to (l .tally) (l .at) (2 ^ 64 - 2) (l .inv .under) (omega arith), g .seated)
 
 loop-less : tie.Need-loop-less Inv-loop μ-loop
 loop-less c =
-    let a = c .before .before .before .before .before .before .before .before .before .before .before .before .before .before .before .args in
-    let l = c .before .before .before .before .before .before .before .before .before .before .before .loop in
+    let a = c .before .before .before .before .before .before .before .before .before .before .before .before .before .before .before .before .before .before .before .args in
+    let l = c .before .before .before .before .before .before .before .before .before .before .before .before .before .loop in
     let code = getD (a .file .now) (l .at) 0 in
-    let k = c .before .before .before .before .before .before .k .given in
-    let kind = sym (c .before .before .before .before .before .before .before .before .kind-of .ensures) ∙ k .1 in
-    let n = c .before .before .before .before .span-of in
-    let e = c .before .before .before .try-event in
-    let t = c .before .t .given in
-    let g = tried-as (a .v) (orderOf (a .any)) (a .file .now) _ (a .stop) (l .m) (l .at) (n .result) (k .0 .0) (e .result) (Goes (t .0 .0) (t .0 .1 .0)) (t .1) (e .ensures) in
+    let k = c .before .before .before .before .before .before .before .before .k .given in
+    let kind = sym (c .before .before .before .before .before .before .before .before .before .before .kind-of .ensures) ∙ k .1 in
+    let n = c .before .before .before .before .before .before .span-of in
+    let e = c .before .before .before .before .try-event in
+    let t = c .before .before .t .given in
+    let g =
+    tried-as (a .v) (orderOf (a .any)) (a .file .now) _ (a .stop) (l .m) (l .at) (n .result) (k .0 .0) (e .result) (Goes (t .0 .0) (t .0 .1 .0) (t .0 .1 .1 .0)) (t .1) (e .ensures) in
     omega (arith, g .later, g .asked .under)
 
 loop-again : tie.Need-loop-again Inv-loop μ-loop
 loop-again c =
-    let a = c .before .before .before .before .before .before .before .before .before .before .before .before .before .before .before .args in
-    let l = c .before .before .before .before .before .before .before .before .before .before .before .loop in
+    let a = c .before .before .before .before .before .before .before .before .before .before .before .before .before .before .before .before .before .before .before .args in
+    let l = c .before .before .before .before .before .before .before .before .before .before .before .before .before .loop in
     let code = getD (a .file .now) (l .at) 0 in
-    let k = c .before .before .before .before .before .before .k .given in
-    let kind = sym (c .before .before .before .before .before .before .before .before .kind-of .ensures) ∙ k .1 in
-    let n = c .before .before .before .before .span-of in
-    let e = c .before .before .before .try-event in
-    let t = c .before .t .given in
-    let g = tried-as (a .v) (orderOf (a .any)) (a .file .now) _ (a .stop) (l .m) (l .at) (n .result) (k .0 .0) (e .result) (Goes (t .0 .0) (t .0 .1 .0)) (t .1) (e .ensures) in
-    turn-goes (a .v) (orderOf (a .any)) (a .file .now) (a .spans .now) (a .stop) _ (a .first) (l .m) (l .at) (l .count) (l .inv) (omega arith) code refl (k .0 .0) kind (n .result)
-    (n .ensures) (t .0 .0) (t .0 .1 .0) g
+    let k = c .before .before .before .before .before .before .before .before .k .given in
+    let kind = sym (c .before .before .before .before .before .before .before .before .before .before .kind-of .ensures) ∙ k .1 in
+    let n = c .before .before .before .before .before .before .span-of in
+    let e = c .before .before .before .before .try-event in
+    let t = c .before .before .t .given in
+    let g =
+    tried-as (a .v) (orderOf (a .any)) (a .file .now) _ (a .stop) (l .m) (l .at) (n .result) (k .0 .0) (e .result) (Goes (t .0 .0) (t .0 .1 .0) (t .0 .1 .1 .0)) (t .1) (e .ensures) in
+    turn-goes (a .v) (orderOf (a .any)) (a .file .now) (a .spans .now) (a .stop) _ (a .first) (l .m) (l .at) (l .tally) (l .inv) (omega arith) code refl (k .0 .0) kind
+    (n .result) (n .ensures .0) (t .0 .0) (t .0 .1 .0) (t .0 .1 .1 .0) g (c .counted .result) (c .counted .ensures)
 
 ended-requires-2 : tie.Need-ended-requires-2 Inv-loop μ-loop
 ended-requires-2 c κs = tt
 
 returns-3 : tie.Need-returns-3 Inv-loop μ-loop
 returns-3 c =
-    let a = c .before .before .before .before .before .before .args in
+    let a = c .before .before .before .before .before .before .before .before .args in
     let l = c .before .before .loop in
-    c .ended2 .ensures ∙ turn-end (a .v) (orderOf (a .any)) (a .file .now) (a .spans .now) (a .stop) _ (a .first) (l .m) (l .at) (l .count) (l .inv) (omega arith)
+    let q = turn-end (a .v) (orderOf (a .any)) (a .file .now) (a .spans .now) (a .stop) _ (a .first) (l .m) (l .at) (l .tally) (l .inv) (omega arith) in
+    (c .ended2 .ensures .0 ∙ q .0, c .ended2 .ensures .1 ∙ q .1)
 
 pub frames-spec : {M : Type 1} → statement M
 frames-spec =
@@ -129,8 +159,10 @@ frames-spec =
     (tie.spec
     Inv-loop
     μ-loop
+    sizes-of-requires
     record-size-requires
     add-span
+    nothing-requires
     loop-holds
     shared-slice-read-code
     kind-of-requires
@@ -139,11 +171,12 @@ frames-spec =
     ended-requires
     returns
     span-of-requires
+    slice-aggregate-try-event
     try-event-requires
     enum-told-2
     returns-2
     enum-known-t
-    add-count
+    counted-requires
     loop-less
     loop-again
     ended-requires-2

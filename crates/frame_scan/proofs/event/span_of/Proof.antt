@@ -24,7 +24,9 @@ cast-result : tie.Need-cast-result
 cast-result c = omega (arith, c .shared-slice-known2 .given (c .before .wide .result))
 
 returns : tie.Need-returns
-returns c = ap (λ (i : ℕ). getD (c .before .before .before .args .spans .now) i 0) (c .before .wide .ensures .0)
+returns c =
+    let e = ap (λ (i : ℕ). getD (c .before .before .before .args .spans .now) i 0) (c .before .wide .ensures .0) in
+    (e, omega (arith, c .shared-slice-known2 .given (c .before .wide .result)))
 
 pub span-of-spec : {M : Type 1} → statement M
 span-of-spec =

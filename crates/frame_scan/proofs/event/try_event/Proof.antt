@@ -13,7 +13,7 @@ use Rattle.frame_scan.proofs.event.try_event.Reads as reads
 use Rattle.frame_scan.proofs.event.try_event.Lts as lts
 use Rattle.frame_order.proofs.order.may.Reads as may-reads
 use Rattle.frame_order.proofs.step.moved.Reads as moved-reads
-use Rattle.frame_scan.proofs.event.fits.Reads as fits-reads
+use Rattle.frame_scan.proofs.sizes.fits.Reads as fits-reads
 use Rattle.frame_scan.proofs.event.word_at.Reads as word-at-reads
 
 fits-requires : tie.Need-fits-requires
@@ -24,8 +24,8 @@ sub-if2 c = search needs
 
 word-at-requires : tie.Need-word-at-requires
 word-at-requires c κs =
-    let a = c .before .before .before .before .args in
-    let h = c .before .before .before .before .pre in
+    let a = c .before .before .before .before .before .args in
+    let h = c .before .before .before .before .before .pre .0 in
     let f = c .before .before .fits2 in
     let o = orderOf (a .any) in
     let s = size-of (a .v) (a .n) (a .family) (f .result) (f .ensures) (c .before .if1 .taken) in
@@ -39,8 +39,8 @@ add-next c = search needs
 
 moved-requires : tie.Need-moved-requires
 moved-requires c κs =
-    let a = c .before .before .before .before .before .before .before .args in
-    let h = c .before .before .before .before .before .before .before .pre in
+    let a = c .before .before .before .before .before .before .before .before .args in
+    let h = c .before .before .before .before .before .before .before .before .pre .0 in
     let f = c .before .before .before .before .before .fits2 in
     let o = orderOf (a .any) in
     let s = size-of (a .v) (a .n) (a .family) (f .result) (f .ensures) (c .before .before .before .before .if1 .taken) in
@@ -54,8 +54,8 @@ moved-requires c κs =
 
 returns : tie.Need-returns
 returns c =
-    let a = c .before .before .before .before .before .before .before .before .args in
-    let h = c .before .before .before .before .before .before .before .before .pre in
+    let a = c .before .before .before .before .before .before .before .before .before .args in
+    let h = c .before .before .before .before .before .before .before .before .before .pre .0 in
     let f = c .before .before .before .before .before .before .fits2 in
     let o = orderOf (a .any) in
     let w = c .before .before .before .word-at in
@@ -65,8 +65,8 @@ returns c =
 
 returns-2 : tie.Need-returns-2
 returns-2 c =
-    let a = c .before .before .before .before .before .before .before .args in
-    let h = c .before .before .before .before .before .before .before .pre in
+    let a = c .before .before .before .before .before .before .before .before .args in
+    let h = c .before .before .before .before .before .before .before .before .pre .0 in
     let f = c .before .before .before .before .before .fits2 in
     let o = orderOf (a .any) in
     let w = c .before .before .word-at in
@@ -76,16 +76,16 @@ returns-2 c =
 
 returns-3 : tie.Need-returns-3
 returns-3 c =
-    let a = c .before .before .before .before .args in
-    let h = c .before .before .before .before .pre in
+    let a = c .before .before .before .before .before .args in
+    let h = c .before .before .before .before .before .pre .0 in
     let f = c .before .before .fits2 in
     let o = orderOf (a .any) in
     not-whole (a .v) o (a .file .now) (a .span) (a .stop) (a .m) (a .at) (a .n) (a .family) (f .result) (f .ensures) (c .before .if1 .taken) (h .under) (omega arith)
 
 returns-4 : tie.Need-returns-4
 returns-4 c =
-    let a = c .before .before .before .args in
-    let h = c .before .before .before .pre in
+    let a = c .before .before .before .before .args in
+    let h = c .before .before .before .before .pre .0 in
     let f = c .before .fits2 in
     let o = orderOf (a .any) in
     not-fits (a .v) o (a .file .now) (a .span) (a .stop) (a .m) (a .at) (a .n) (a .family) (f .result) (f .ensures) (c .if1 .left)

@@ -5,8 +5,11 @@ use Rattle.frame_scan.proofs.event.word_at.Statement.{statement}
 use Rattle.frame_scan.proofs.event.word_at.Tie as tie
 use Rattle.frame_scan.proofs.event.word_at.Reads as reads
 use Rattle.frame_scan.proofs.event.word_at.Lts as lts
-use Rattle.frame_scan.proofs.event.byte_at.Reads as byte-at-reads
+use Rattle.frame_scan.proofs.event.who_at.Reads as who-at-reads
 use Rattle.wire.proofs.get_be.Reads as get-be-reads
+
+who-at-requires : tie.Need-who-at-requires
+who-at-requires c κs = search needs
 
 add-get-be : tie.Need-add-get-be
 add-get-be c = search needs
@@ -14,29 +17,8 @@ add-get-be c = search needs
 get-be-requires : tie.Need-get-be-requires
 get-be-requires c κs = search needs
 
-add-byte-at : tie.Need-add-byte-at
-add-byte-at c = search needs
-
-byte-at-requires : tie.Need-byte-at-requires
-byte-at-requires c κs = search needs
-
-add-byte-at-2 : tie.Need-add-byte-at-2
-add-byte-at-2 c = search needs
-
-byte-at-requires-2 : tie.Need-byte-at-requires-2
-byte-at-requires-2 c κs = search needs
-
 returns : tie.Need-returns
-returns c = λ i. record { id = c .before .before .get-be .ensures i; port = c .before .byte-at .ensures i; follower = c .byte-at2 .ensures i }
+returns c = let w = c .before .who-at .ensures in λ i. record { id = c .get-be .ensures i; port = w i .port; follower = w i .follower }
 
 pub word-at-spec : {M : Type 1} → statement M
-word-at-spec =
-    tie.close
-    (tie.spec
-    add-get-be
-    get-be-requires
-    add-byte-at
-    byte-at-requires
-    add-byte-at-2
-    byte-at-requires-2
-    returns)
+word-at-spec = tie.close (tie.spec who-at-requires add-get-be get-be-requires returns)

@@ -1,12 +1,12 @@
 use mathlib.Core.Path.{_∙_, sym, ap}
-use Rattle.slp.specs.Answers.{stepStruct}
+use Rattle.answers.specs.Answers.{stepStruct}
 use borrow.Author.Needs.{needs}
 use Rattle.slp.proofs.reader.slp_step_at.Statement.{statement}
 use Rattle.slp.proofs.reader.slp_step_at.Tie as tie
 use Rattle.slp.proofs.reader.slp_step_at.Reads as reads
 use Rattle.slp.proofs.reader.slp_step_at.Lts as lts
 use Rattle.de.proofs.step_at.Reads as step-at-reads
-use Rattle.slp.proofs.answers.step_numbers.Reads as step-numbers-reads
+use Rattle.answers.proofs.step_numbers.Reads as step-numbers-reads
 
 -- src/reader.rt:15:18
 step-at-requires : tie.Need-step-at-requires

@@ -1,12 +1,12 @@
 use mathlib.Core.Path.{_∙_, sym, ap}
-use Rattle.slp.specs.Answers.{walkStruct}
+use Rattle.answers.specs.Answers.{walkStruct}
 use borrow.Author.Needs.{needs}
 use Rattle.slp.proofs.reader.slp_walk.Statement.{statement}
 use Rattle.slp.proofs.reader.slp_walk.Tie as tie
 use Rattle.slp.proofs.reader.slp_walk.Reads as reads
 use Rattle.slp.proofs.reader.slp_walk.Lts as lts
 use Rattle.de.proofs.walk.Reads as walk-reads
-use Rattle.slp.proofs.answers.walk_numbers.Reads as walk-numbers-reads
+use Rattle.answers.proofs.walk_numbers.Reads as walk-numbers-reads
 
 -- src/reader.rt:22:18
 walk-requires : tie.Need-walk-requires

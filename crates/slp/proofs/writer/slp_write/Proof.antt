@@ -5,7 +5,7 @@ use Rattle.slp.proofs.writer.slp_write.Tie as tie
 use Rattle.slp.proofs.writer.slp_write.Reads as reads
 use Rattle.slp.proofs.writer.slp_write.Lts as lts
 use Rattle.ser.proofs.write.write.Reads as write-reads
-use Rattle.slp.proofs.answers.written_numbers.Reads as written-numbers-reads
+use Rattle.answers.proofs.written_numbers.Reads as written-numbers-reads
 
 -- src/writer.rt:33:21
 write-requires : tie.Need-write-requires

@@ -1,0 +1,4 @@
+pub mod Walked
+pub mod Opening
+pub mod Laws
+pub mod Stages

@@ -1,0 +1,10 @@
+pub mod RowRuns
+pub mod Opens
+pub mod Acts
+pub mod Distinct
+pub mod Standing
+pub mod Numbers
+pub mod Seats
+pub mod Players
+pub mod Bits
+pub mod Uneven

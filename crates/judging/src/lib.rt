@@ -1,0 +1,116 @@
+// Which replay a file holds: the walk, the first event, then the parts of the event data, and its counts.
+ghost use mathlib.Core.Path.{_≡_};
+ghost use Rattle.de.specs.Walk.{walkOf};
+ghost use Rattle.de.specs.Numbers.{walkNumbers};
+ghost use Rattle.found.specs.Inner.{Begins, Counted, Verdicts};
+ghost use Rattle.judging.specs.Inner.{refusedAs, countsBy};
+use de::Walked;
+use format::refusal::BAD_EVENTS;
+use format::refusal::TOO_MANY;
+use format::refusal::VERSION_TOO_NEW;
+use found::Verdict;
+use found::first::First;
+use found::first::first_event;
+use found::parts::Judged;
+use found::parts::Parts;
+use frame_scan::tally::Tally;
+use game::frames::Counts;
+use game::frames::Frames;
+use game::frames::PortColumn;
+use parts::judge_parts;
+
+pub mod parts;
+
+// A refusal that names no place.
+fn refused(number: u8) -> Verdict
+    ensures { λ r. ⌜ r ≡ refusedAs number ⌝ }
+{
+    Verdict::Refused { number, offset: 0 }
+}
+
+// A frame input that has these counts, and nobody in it.
+fn counts_of(p: Parts) -> Frames
+    ensures { λ r. ⌜ r .counts ≡ countsBy (p .tally) ⌝ }
+{
+    let version = p.version;
+    let t = p.tally;
+    let counts = Counts {
+        frames: t.frames,
+        items: t.items,
+        fods: t.fods,
+        whispys: t.whispys,
+        stadiums: t.stadiums,
+    };
+    let none = PortColumn {
+        port: 0,
+        follower: 0,
+        leader_presence: 0,
+        follower_presence: 0,
+    };
+    Frames {
+        version,
+        counts,
+        ports: [none; 4],
+        port_count: 0,
+    }
+}
+
+// The counts of the replay that a file holds are judged last.
+fn judge_counts(file: &[u8], first: usize, stop: usize, parts: Parts) -> Verdict
+    requires { ⌜ Counted (now file) first stop parts ⌝ }
+    ensures { λ r. ⌜ Verdicts (now (file .entry)) r ⌝ }
+{
+    let f = counts_of(parts);
+    if frames::judge::too_many(f, 512 * parts.blocks, 0) {
+        return refused(TOO_MANY);
+    }
+    Verdict::Held { first, stop, parts }
+}
+
+// The events of a file that was walked.
+fn judge_events(file: &[u8], spans: &[u32], first: usize, stop: usize, whole: bool) -> Verdict
+    requires { ⌜ Begins (now file) (now spans) first stop whole ⌝ }
+    ensures { λ r. ⌜ Verdicts (now (file .entry)) r ⌝ }
+{
+    let e = first_event(file, spans, first, stop);
+    let First::Opens { version, len } = e else {
+        return refused(BAD_EVENTS);
+    };
+    if !version.accepted() {
+        return refused(VERSION_TOO_NEW);
+    }
+    if !whole {
+        return refused(BAD_EVENTS);
+    }
+    let j = judge_parts(file, spans, version, first, stop, len);
+    let Judged::Held { parts } = j else {
+        return refused(BAD_EVENTS);
+    };
+    judge_counts(file, first, stop, parts)
+}
+
+// A file whose walk is not refused.
+fn judge_walked(file: &[u8]) -> Verdict
+    requires { ⌜ walkNumbers (walkOf (now file)) .kind ≡ 0 ⌝ }
+    ensures { λ r. ⌜ Verdicts (now (file .entry)) r ⌝ }
+{
+    let mut spans = [0u32; 256];
+    let h = head::table::parse_head(file, &mut spans);
+    judge_events(file, &spans, h.first, h.stop, h.whole)
+}
+
+// Any file.
+pub fn judge(file: &[u8]) -> Verdict
+    ensures { λ r. ⌜ Verdicts (now (file .entry)) r ⌝ }
+{
+    let w = de::walk(file);
+    match w {
+        Walked::Refused { number, offset } => Verdict::Refused { number, offset },
+        Walked::Done {
+            events: _,
+            stray: _,
+            whole: _,
+            place: _,
+        } => judge_walked(file),
+    }
+}

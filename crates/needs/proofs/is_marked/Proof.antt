@@ -1,0 +1,14 @@
+-- `needs::is_marked` meets its contract.
+-- Assumes nothing.
+use borrow.Author.Needs.{needs}
+use mathlib.Core.Path.{refl}
+use Rattle.needs.specs.Inner.{markAt}
+use Rattle.needs.proofs.is_marked.Statement.{statement}
+use Rattle.needs.proofs.is_marked.Tie as tie
+
+returns : tie.Need-returns
+unfolding markAt
+returns c = refl
+
+pub is-marked-spec : {M : Type 1} → statement M
+is-marked-spec = tie.close (tie.spec (λ c. search needs) returns)

@@ -1,0 +1,5 @@
+pub mod Laws
+pub mod Stands
+pub mod Same
+pub mod Back
+pub mod Cases

@@ -1,0 +1,15 @@
+pub mod Lists
+pub mod Ranges
+pub mod Slots
+pub mod Players
+pub mod Rows
+pub mod Tree
+pub mod Ports
+pub mod Judged
+pub mod Given
+pub mod Stores
+pub mod Present
+pub mod Returned
+pub mod Codes
+pub mod Bytes
+pub mod Cases

@@ -1,0 +1,4 @@
+pub mod Slots
+pub mod Bytes
+pub mod Returned
+pub mod Codes

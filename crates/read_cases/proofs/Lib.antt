@@ -1,0 +1,14 @@
+pub mod Files
+pub mod Early
+pub mod Taken
+pub mod Smallest
+pub mod Tails
+pub mod OneFrame
+pub mod Full
+pub mod Codes
+pub mod NoReplay
+pub mod NotBack
+pub mod Short
+pub mod Outcomes
+pub mod Big
+pub mod BigFile

@@ -1,0 +1,5 @@
+pub mod Needs
+pub mod Tails
+pub mod Answers
+pub mod Only
+pub mod Outcomes

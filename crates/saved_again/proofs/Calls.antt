@@ -1,0 +1,114 @@
+-- From the calls: what `write` left is taken by `measure` and `read`, and what they answer, given to `write` again, leaves the same file.
+-- Assumes nothing.
+use Prim.Native.Nat.{ℕ, zero, suc, _≤_}
+use mathlib.Core.Path.{_≡_, sym, ap, ap₂, subst, _∙_}
+use mathlib.Core.Bool.{Bool, true, false, cond}
+use mathlib.Core.List.{List}
+use native.Mathlib.Omega.{arith}
+use lib.ListN.{length, take}
+use Rattle.wire.specs.Wire.{splice}
+use Rattle.format.specs.declared.version.Version.{Version}
+use Rattle.game.specs.Stores.{Stores}
+use Rattle.game.specs.declared.Game.{Game}
+use Rattle.ser.specs.declared.written.Written.{Written}
+use Rattle.ser.specs.declared.written.Written.the-variants.{File}
+use Rattle.ser.specs.Write.{file, refusal, answered, WrittenNumbers, writtenNumbers, left, Outcome}
+use Rattle.ser.proofs.Answered.{written-file}
+use Rattle.grammar.specs.Productions.{Replay}
+use Rattle.grammar_games.specs.Tree.{replayOf}
+use Rattle.found.specs.Found.{Found, versionOf, tooBig}
+use Rattle.reading.specs.Game.{Kept, keptRead, placesIn, gameRead}
+use Rattle.reading.specs.Read.{measuredIn, unopened, openedIn, keptShort, keptOver, MeasureOutcome, ReadOutcome, early, none, big, short, found}
+use Rattle.reading.specs.declared.Measured.{Measured}
+use Rattle.reading.specs.declared.Opened.{Opened}
+use Rattle.saved_again.specs.Admitted.{Admitted}
+use Rattle.saved_again.specs.Again.{fronts, storesFrom, storesRead}
+use Rattle.saved_again.proofs.Found as in-file
+use Rattle.saved_again.proofs.Again.{game-back}
+use Rattle.saved_again.proofs.Accepted.{accepted-again}
+use Rattle.saved_again.proofs.Fronts.{fronts-read}
+
+not-both : {b : Bool} → b ≡ true → b ≡ false → ⊥
+not-both p q = let z : _≡_ {A = ℕ} 0 1 = ap (λ (c : Bool). cond c 0 1) (sym p ∙ q) in omega arith
+
+-- an answer that is a file
+file-long : (k n m : ℕ) → writtenNumbers (File n) ≡ writtenNumbers (answered k m) → n ≡ m
+file-long zero n m e = ap (λ (w : WrittenNumbers). w .len) e
+file-long (suc k) n m e = let z : _≡_ {A = ℕ} 0 1 = ap (λ (w : WrittenNumbers). w .kind) e in absurd (omega arith)
+
+module _ {g : Game} {s : Stores} (a : Admitted g s) where
+  abbrev f : List ℕ
+  f = file g s
+
+  abbrev r : Replay
+  r = replayOf g s
+
+  -- what is to go into the stores
+  abbrev pub needed : Kept
+  needed = keptRead (versionOf f) r
+
+  not-big : (x : Found f) → tooBig (versionOf f) (x .replay) ≡ false
+  not-big x = ap₂ (λ (w : Version) (q : Replay). tooBig w q) (in-file.version-is a) (in-file.only a x) ∙ in-file.not-big a
+
+  -- ---- measure and read
+
+  pub measured : {m : Measured} → MeasureOutcome f m → m ≡ measuredIn f r
+  measured (early p e) = absurd (p (in-file.not-early a))
+  measured (none z p e) = absurd (p (in-file.found a))
+  measured (big z x p e) = absurd (not-both p (not-big x))
+  measured (found z x p e) = e ∙ ap (measuredIn f) (in-file.only a x)
+
+  module _ {given : Kept} {x : Opened} {after : Kept} where
+    -- stores that are long enough take it
+    pub opened : keptShort given needed ≡ false → ReadOutcome f given x after → (x ≡ openedIn f r) × (after ≡ keptOver given needed)
+    opened h (early p e q) = absurd (p (in-file.not-early a))
+    opened h (none z p e q) = absurd (p (in-file.found a))
+    opened h (big z y p e q) = absurd (not-both p (not-big y))
+    opened h (short z y p l e q) = absurd (not-both l (ap (λ (t : Replay). keptShort given (keptRead (versionOf f) t)) (in-file.only a y) ∙ h))
+    opened h (found z y p l e q) =
+        (e ∙ ap (openedIn f) (in-file.only a y), q ∙ ap (λ (t : Replay). keptOver given (keptRead (versionOf f) t)) (in-file.only a y))
+
+    -- with one that is not it is refused, and for nothing else
+    pub refused-short : keptShort given needed ≡ true → ReadOutcome f given x after → (x ≡ unopened 12 0) × (after ≡ given)
+    refused-short h (early p e q) = absurd (p (in-file.not-early a))
+    refused-short h (none z p e q) = absurd (p (in-file.found a))
+    refused-short h (big z y p e q) = absurd (not-both p (not-big y))
+    refused-short h (short z y p l e q) = (e, q)
+    refused-short h (found z y p l e q) =
+        absurd (not-both h (sym (ap (λ (t : Replay). keptShort given (keptRead (versionOf f) t)) (in-file.only a y)) ∙ l))
+
+  -- ---- and write again
+
+  written-again : (out out′ : List ℕ) (w : Written) → length f ≤ length out → Outcome (gameRead f r) (storesRead f r) out w out′
+      → (writtenNumbers w ≡ writtenNumbers (File (length f))) × (out′ ≡ splice out 0 f)
+  written-again out out′ w h o =
+      let z = accepted-again a (length out) h in
+      let same = game-back a in (
+        o .answer-is ∙ ap₂ (λ (k : ℕ) (l : List ℕ). writtenNumbers (answered k (length l))) z same,
+        o .out-is ∙ ap₂ (λ (k : ℕ) (l : List ℕ). left k out l) z same,
+      )
+
+  module _ {out out′ : List ℕ} {n : ℕ} (o : Outcome g s out (File n) out′) where
+    long : n ≡ length f
+    long = file-long (refusal g s (length out)) n (length f) (o .answer-is)
+
+    abbrev saved : List ℕ
+    saved = take n out′
+
+    is : saved ≡ f
+    is = written-file o
+
+    -- the file that `write` left, measured and read into stores that are long enough, and written from what these calls gave
+    pub saved-again : {m : Measured} {given : Kept} {x : Opened} {after : Kept} (again again′ : List ℕ) (w : Written) → keptShort given needed ≡ false → n ≤ length again
+        → MeasureOutcome saved m → ReadOutcome saved given x after → Outcome (x .game) (storesFrom saved (x .places) (fronts (m .lengths) after)) again w again′
+        → (writtenNumbers w ≡ writtenNumbers (File n)) × (again′ ≡ splice again 0 saved)
+    saved-again {m} {given} {x} {after} again again′ w fits room measure read write =
+        let e = measured (subst (λ (l : List ℕ). MeasureOutcome l m) is measure) in
+        let (q, t) = opened fits (subst (λ (l : List ℕ). ReadOutcome l given x after) is read) in
+        let fronts-are : fronts (m .lengths) after ≡ needed = ap₂ (λ (y : Measured) (k : Kept). fronts (y .lengths) k) e t ∙ fronts-read given needed fits in
+        let stores-are : storesFrom saved (x .places) (fronts (m .lengths) after) ≡ storesRead f r =
+        ap₂ (λ (l : List ℕ) (y : Opened). storesFrom l (y .places) (fronts (m .lengths) after)) is q ∙ ap (storesFrom f (placesIn f r)) fronts-are in
+        let game-is : x .game ≡ gameRead f r = ap (λ (y : Opened). y .game) q in
+        let (answer, left) = written-again again again′ w (omega (arith, long, room))
+        (subst (λ (y : Game). Outcome y (storesRead f r) again w again′) game-is (subst (λ (y : Stores). Outcome (x .game) y again w again′) stores-are write)) in
+        (answer ∙ ap (λ (k : ℕ). writtenNumbers (File k)) (sym long), left ∙ ap (splice again 0) (sym is))

@@ -1,0 +1,9 @@
+pub mod Parts
+pub mod Tails
+pub mod Listed
+pub mod Found
+pub mod Again
+pub mod Returned
+pub mod Accepted
+pub mod Fronts
+pub mod Calls

@@ -1,0 +1,32 @@
+-- What is given to `write` to save again what was read: the fronts of the stores that were filled, and the parts of the file that `read` names.
+-- Assumes nothing.
+use Prim.Native.Nat.{ℕ}
+use mathlib.Core.List.{List}
+use lib.ListN.{take}
+use Rattle.wire.specs.Wire.{part}
+use Rattle.game.specs.Stores.{lent, cells, offsets, Stores, stores}
+use Rattle.grammar.specs.Productions.{Replay}
+use Rattle.needs.specs.declared.Lengths.{Lengths}
+use Rattle.found.specs.Found.{versionOf}
+use Rattle.reading.specs.Game.{Kept, kept, keptRead, placesIn}
+use Rattle.reading.specs.declared.Places.{Places}
+
+-- the start of each store, as long as `measure` says
+unfoldable pub fronts : Lengths → Kept → Kept
+fronts n k =
+    let c = k .lent .cells in
+    let o = k .lent .offsets in
+    kept
+    (lent
+    (cells (take (n .ids) (c .ids)) (take (n .starts) (c .starts)) (take (n .pres) (c .pres)) (take (n .posts) (c .posts)) (take (n .ends) (c .ends)) (take (n .items) (c .items))
+    (take (n .fods) (c .fods)) (take (n .whispys) (c .whispys)) (take (n .stadiums) (c .stadiums)))
+    (offsets (take (n .«item_offsets») (o .items)) (take (n .«fod_offsets») (o .fods)) (take (n .«whispy_offsets») (o .whispys)) (take (n .«stadium_offsets») (o .stadiums)))
+    (take (n .presence) (k .lent .presence)))
+    (take (n .codes) (k .codes))
+
+-- the block in the file is the template
+abbrev pub storesFrom : List ℕ → Places → Kept → Stores
+storesFrom f at k = stores (k .lent) (part f (at .«block_at») (at .«block_len»)) (k .codes) (part f (at .«metadata_at») (at .«metadata_len»))
+
+abbrev pub storesRead : List ℕ → Replay → Stores
+storesRead f r = storesFrom f (placesIn f r) (keptRead (versionOf f) r)

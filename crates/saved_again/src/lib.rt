@@ -1,0 +1,1 @@
+// That a file which was written, read and written again is the same file: definitions and laws only.

@@ -1,0 +1,13 @@
+-- How many columns a store has.
+-- Assumes nothing.
+use Prim.Native.Nat.{ℕ}
+use mathlib.Core.Bool.{cond}
+use lib.Dec.{ltb}
+use lib.ListN.{length}
+use Rattle.format.specs.declared.version.Version.{Version}
+use Rattle.layout.specs.Columns.{widthsOf}
+use Rattle.run_rows.specs.Run.{familyOf}
+
+-- how many columns a family's store has; the families are numbered by their stores
+abbrev pub storeColumns : Version → ℕ → ℕ
+storeColumns v family = cond (ltb 7 family) 0 (length (widthsOf (familyOf family) v))
