@@ -7,9 +7,8 @@ use mathlib.Core.List.{List, [], _∷_, _++_}
 use lib.Dec.{eqb, leb, ltb}
 use lib.ListN.{length, getD, drop}
 use Rattle.wire.specs.Wire.{part, ranged}
-use Rattle.format.specs.Event.{codeOf}
 use Rattle.format.specs.File.{Ev, eventsBytes}
-use Rattle.format.specs.Version.{version, acceptedOf}
+use Rattle.format.specs.Version.{version}
 use Rattle.format.specs.declared.event.Event.the-variants.{GameStart}
 use Rattle.format.specs.declared.version.Version.{Version}
 use Rattle.layout.specs.Columns.{hasFamily}
@@ -17,11 +16,9 @@ use Rattle.layout.specs.Payloads.{endSize}
 use Rattle.layout.specs.declared.columns.Family.the-variants.{FrameStart}
 use Rattle.start.specs.Length.{lengthOf}
 use Rattle.start_read.specs.Start.{seatsFit}
-use Rattle.head.specs.Table.{tableOf, firstPlace, stopOf, spanOf, allPresent, headRefusal}
-use Rattle.de.specs.Walk.{walkOf}
-use Rattle.de.specs.Numbers.{walkNumbers}
+use Rattle.head.specs.Table.{tableOf, firstPlace, stopOf, spanOf, allPresent}
 use Rattle.de.specs.Cut.{eventsRead}
-use Rattle.grammar.specs.Productions.{Block, Frame, Replay, startEvent, framesEvents}
+use Rattle.grammar.specs.Productions.{Frame, startEvent, framesEvents}
 use Rattle.grammar.specs.WellFormed.{Each, ascending, GoodFrame}
 use Rattle.grammar.specs.Readable.{Changing}
 use Rattle.grammar.specs.Sound.{usedIn}
@@ -33,8 +30,7 @@ use Rattle.found.specs.Found.{versionOf, earlyRefusal, offsetOf, Found, 
 use Rattle.found.specs.declared.first.First.{First}
 use Rattle.found.specs.declared.first.First.the-variants.{Opens, Other}
 use Rattle.found.specs.declared.parts.Parts.{Parts}
-use Rattle.found.specs.declared.parts.Judged.{Judged}
-use Rattle.found.specs.declared.parts.Judged.the-variants.{Held, Wrong}
+use Rattle.found.specs.declared.parts.Judged.the-variants.{Held}
 use Rattle.found.specs.declared.Verdict.{Verdict}
 use Rattle.found.specs.declared.Verdict.the-variants as verdict
 
@@ -127,23 +123,7 @@ pub record Holds (f : List ℕ) (first stop : ℕ) (p : Parts) : Type 0 where
   pub ends-are : p .ends ≡ length (found .replay .ends)
   pub end-is : EndAt f (versionOf f) (p .«ends_at» + 1) (found .replay .ends)
 
-abbrev pub Judges : List ℕ → ℕ → ℕ → Judged → Type 0
-Judges f first stop (Held p) = Holds f first stop p
-Judges f first stop Wrong = Found f → ⊥
-
 -- ---- the whole judgement
-
--- a file whose head is accepted and whose walk is not refused: where its events start, where the data ends, whole or not
-pub record Begins (f spans : List ℕ) (first stop : ℕ) (whole : Bool) : Type 0 where
-  pub accepted : headRefusal f ≡ 0
-  pub walked : walkNumbers (walkOf f) .kind ≡ 0
-  pub many : length spans ≡ 256
-  pub index : (c : ℕ) → c < 256 → getD spans c 0 ≡ spanOf c (tableOf f)
-  pub first-is : first ≡ firstPlace (tableOf f)
-  pub stop-is : stop ≡ stopOf f
-  pub whole-is : whole ≡ allPresent f
-  pub starts : first ≤ stop
-  pub within : stop ≤ length f
 
 -- it holds a replay, whose counts are to be judged
 pub record Counted (f : List ℕ) (first stop : ℕ) (p : Parts) : Type 0 where

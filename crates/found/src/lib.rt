@@ -1,4 +1,4 @@
-// Which replay a file holds: the walk, the first event, then the parts of the event data, each in one pass.
+// Which replay a file holds: the first event, then the parts of the event data, each in one pass.
 use parts::Parts;
 
 pub mod first;

@@ -22,7 +22,7 @@ fn block_of(numbers: &[u32], slot: usize) -> usize
 }
 
 // The block of the player whose event stands at a place.
-fn block_at(file: &[u8], at: usize, numbers: &[u32]) -> usize
+pub fn block_at(file: &[u8], at: usize, numbers: &[u32]) -> usize
     requires { ⌜ at + 7 ≤ length (now file) ⌝ }
     ensures { λ r. ⌜ r ≡ blockOf (now (numbers .entry)) (toldAt (now (file .entry)) at) ⌝ }
 {
@@ -65,7 +65,7 @@ pub fn put_player(
 }
 
 // A bit more in a byte; over a byte's numbers it comes round.
-fn with_bit(b: u8, k: usize) -> u8
+pub fn with_bit(b: u8, k: usize) -> u8
     requires { ⌜ k < 8 ⌝ }
     ensures { λ r. ⌜ r ≡ (b + 2 ^ k) % 256 ⌝ }
 {

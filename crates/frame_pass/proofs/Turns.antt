@@ -1,9 +1,9 @@
 -- The laws of a turn: what an event says in a file is what it says by itself, a whole event stands at each place, and what is left after it.
 -- Assumes nothing.
-use mathlib.Core.Path.{_≡_, refl, sym, ap, ap₂, subst, _∙_}
+use mathlib.Core.Path.{_≡_, refl, sym, ap, ap₂, _∙_}
 use mathlib.Core.Bool.{Bool, true, false, cond, _&&_}
 use mathlib.Core.List.{List, [], _∷_, _++_, append-assoc}
-use Prim.Native.Nat.{ℕ, zero, suc, _+_, _-_, _*_, _/_, _≤_, _<_}
+use Prim.Native.Nat.{ℕ, _+_, _-_, _*_, _≤_, _<_}
 use native.Mathlib.Nat.{add-zero}
 use native.Mathlib.Omega.{arith}
 use borrow.Author.Tests.{eqb-true}
@@ -16,11 +16,10 @@ use Rattle.layout.specs.Columns.{sum}
 use Rattle.game.specs.Stores.{Cells, Offsets, Lent, lent}
 use Rattle.record.specs.Record.{readBack}
 use Rattle.grammar.specs.WellFormed.{Each}
-use Rattle.frame_fill.specs.Inner.{Plan, spansOf, spanBy, spanIn, Told, toldAt, toldBy, opens, openAfter, nextAfter, opensBy, openBy, seenAfter, stepOffsets, marked, offsetMarked, blockOf, seated, rowPut, playerPut, bitPut, step, run, finish, Roomy, Rooms, Whole, Long, Sized, Spelled, SomeSpelled, Left, none}
+use Rattle.frame_fill.specs.Inner.{Plan, spanBy, spanIn, Told, toldAt, toldBy, opens, openAfter, nextAfter, opensBy, openBy, seenAfter, stepOffsets, marked, offsetMarked, blockOf, seated, rowPut, playerPut, bitPut, step, run, finish, Rooms, Whole, Long, Sized, Spelled, SomeSpelled, Left, none}
 use Rattle.frame_fill.specs.declared.seen.Open.{Open}
 use Rattle.frame_fill.specs.declared.seen.Next.{Next}
 use Rattle.frame_fill.specs.declared.seen.Seen.{Seen}
-use Rattle.frame_fill.specs.declared.spans.Spans.{Spans}
 
 -- ---- rows that are there
 
@@ -393,24 +392,22 @@ pub passing-first : (p : Plan) (file : List ℕ) (first stop : ℕ) (l : Lent) (
 passing-first p file first stop l s e =
     record { lengths = same-lengths l; left = λ es q. record { events = es; spelled = q; same = ap (λ (x : Seen). run p es x l) e } }
 
-module _ (p : Plan) (z : Spans) (file : List ℕ) (first stop : ℕ) (l m : Lent) (s : Seen) (at : ℕ) (spans : z ≡ spansOf p) (some : SomeSpelled p file first stop)
+module _ (p : Plan) (file : List ℕ) (first stop : ℕ) (l m : Lent) (s : Seen) (at : ℕ) (some : SomeSpelled p file first stop)
     (h : Passing p file first stop l m s at) (t : at < stop) where
+  some-left : Left p file at stop s m (run p (some .events) none l)
+  some-left = h .left (some .events) (some .spelled)
+
   pub passing-whole : Whole p file at
-  passing-whole = whole-here p file at stop s m (run p (some .events) none l) (h .left (some .events) (some .spelled)) t
+  passing-whole = whole-here p file at stop s m (run p (some .events) none l) some-left t
 
-  pub passing-next : (r : ℕ) → r ≡ spanBy z (getD file at 0) → (at + r ≤ length file) × (5 ≤ r)
-  passing-next r e =
-      let k : r ≡ spanIn p (getD file at 0) = e ∙ ap (λ (x : Spans). spanBy x (getD file at 0)) spans in
-      let w = passing-whole in
-      (omega (arith, w .inside), omega (arith, w .long))
+  pub passing-inside : stop ≤ length file
+  passing-inside =
+      let q = some-left .spelled in
+      omega (arith, q .long, sym (length-drop at file) ∙ ap length (q .here) ∙ length-append (eventsBytes (some-left .events)) (q .rest))
 
-  pub passing-on : (r : ℕ) → r ≡ spanBy z (getD file at 0) → (s′ : Seen) (m′ : Lent) → Lengths m m′ → s′ ≡ seenAfter p s (toldAt file at) → m′ ≡ step p s (toldAt file at) m
-      → Passing p file first stop l m′ s′ (at + r)
-  passing-on r e s′ m′ k a b =
-      record {
-        lengths = lengths-on l m m′ (h .lengths) k;
-        left = λ es q. left-on p file at stop s m (run p es none l) (at + r) s′ m′ (h .left es q) t (ap (λ (x : ℕ). at + x) (e ∙ ap (λ (x : Spans). spanBy x (getD file at 0)) spans)) a b;
-      }
+  pub passing-on : (next : ℕ) (s′ : Seen) (m′ : Lent) → Lengths m m′ → ((all : Lent) → Left p file at stop s m all → Left p file next stop s′ m′ all)
+      → Passing p file first stop l m′ s′ next
+  passing-on next s′ m′ k go = record { lengths = lengths-on l m m′ (h .lengths) k; left = λ es q. go (run p es none l) (h .left es q) }
 
 pub passing-done : (p : Plan) (file : List ℕ) (first stop : ℕ) (l : Lent) (c : Cells) (o o′ : Offsets) (b : List ℕ) (s : Seen) (at : ℕ) → Passing p file first stop l (lent c o b) s at → stop ≤ at
     → (o′ .items ≡ offsetMarked (true && p .hasItem) (s .opened .frames) (s .next .items) (o .items))

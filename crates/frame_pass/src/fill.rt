@@ -2,14 +2,11 @@
 ghost use mathlib.Core.Path.{_≡_};
 ghost use mathlib.Core.Bool.{false};
 ghost use mathlib.Core.List.{List};
-ghost use Prim.Native.Nat.{_≤_};
-ghost use lib.ListN.{length};
 ghost use Rattle.format.specs.File.{Ev};
 ghost use Rattle.layout.specs.Inner.{Widths};
 ghost use Rattle.layout.specs.declared.columns.Family.the-variants.{Pre, Post, FrameStart, Item, FrameEnd, FodPlatform, DreamlandWhispy, StadiumTransformation};
 ghost use Rattle.players.specs.Inner.{Modest};
 ghost use Rattle.players.specs.Presence.{portsUneven};
-ghost use Rattle.game.specs.Frames.{slotsOf};
 ghost use Rattle.game.specs.Stores.{cells, offsets, lent};
 ghost use Rattle.frame_fill.specs.Inner.{planOf, cleared, run, none, Rooms, Spelled, SomeSpelled, Numbered};
 use super::pass::pass;

@@ -1,16 +1,16 @@
 -- The marks of slots are bits of a number.
 -- Assumes nothing.
-use mathlib.Core.Path.{_≡_, refl, sym, ap, _∙_}
+use mathlib.Core.Path.{_≡_, refl, sym, ap, ap₂, _∙_}
 use mathlib.Core.Bool.{Bool, true, false, cond, _||_, or-assoc, or-false}
 use mathlib.Core.List.{List, [], _∷_}
-use Prim.Native.Nat.{ℕ, zero, suc, _+_, _-_, _/_, _%_, _^_, _<_}
+use Prim.Native.Nat.{ℕ, zero, suc, _+_, _-_, _*_, _/_, _%_, _^_, _<_, max}
 use native.Mathlib.Decide.{decLt}
-use native.Mathlib.Nat.{zero-mul, zero-add, one-mul}
+use native.Mathlib.Nat.{zero-mul, zero-add, add-zero, one-mul, div-add-mod', mod-lt}
 use native.Mathlib.Omega.{arith}
-use borrow.Author.Tests.{eq-eqb, ne-eqb}
-use lib.Bits.{bitOr, or-shr, or-mod}
+use borrow.Author.Tests.{eq-eqb, ne-eqb, eqb-true}
+use lib.Bits.{bitOr, or-shr, or-mod, or-step, or-zero-r, or-block}
 use lib.Dec.{eqb}
-use lib.Pow.{pow-lt, pow-add, shl-shr, high}
+use lib.Pow.{pow-lt, pow-pos, pow-add, shl-shr, high}
 use Rattle.grammar.specs.Productions.{Player}
 use Rattle.grammar.specs.WellFormed.{slotOf}
 use Rattle.columns.specs.Columns.{holds}
@@ -84,3 +84,23 @@ marks-hold k (p ∷ ps) slots =
     marks-hold k ps (bitOr slots (2 ^ slotOf p))
     ∙ ap (λ (b : Bool). b || holds k ps) (marked-more slots (slotOf p) k)
     ∙ or-assoc (isMarked slots k) (eqb (slotOf p) k) (holds k ps)
+
+-- marking what is marked changes nothing
+pub marked-stays : (slots k : ℕ) → isMarked slots k ≡ true → bitOr slots (2 ^ k) ≡ slots
+unfolding isMarked
+marked-stays slots k h =
+    let a = slots / 2 ^ k in
+    let r = slots % 2 ^ k in
+    let pos : 0 < 2 ^ k = pow-pos k in
+    let whole : a * 2 ^ k + r ≡ slots = div-add-mod' slots (2 ^ k) in
+    let one : 1 * 2 ^ k + 0 ≡ 2 ^ k = ap (λ (n : ℕ). n + 0) (one-mul (2 ^ k)) ∙ add-zero (2 ^ k) in
+    ap₂ bitOr (sym whole) (sym one)
+    ∙ or-block k a 1 r 0 (mod-lt slots pos) pos
+    ∙ ap₂ (λ (x y : ℕ). x * 2 ^ k + y) (odd-or a (eqb-true (a % 2) 1 h)) (or-zero-r r)
+    ∙ whole
+  where
+    odd-or : (a : ℕ) → a % 2 ≡ 1 → bitOr a 1 ≡ a
+    odd-or a e =
+        or-step a 1
+        ∙ ap₂ (λ (x y : ℕ). x * 2 + y) (or-zero-r (a / 2)) (ap (λ (n : ℕ). max n 1) e)
+        ∙ (let q : a / 2 * 2 + 1 ≡ a = omega arith in q)

@@ -149,7 +149,7 @@ pub record Turning (v : Version) (o : Order) (file spans : List ℕ) (stop span 
   pub counts : tallied v o file spans stop (suc stop) first initial noTally ≡ tallied v o file spans stop left at (stateIn file span m) y
   pub under : Under y at
 
-kind-frame : (x : Option Family) (family : Family) → kindOf x ≡ Frame family → x ≡ some family
+pub kind-frame : (x : Option Family) (family : Family) → kindOf x ≡ Frame family → x ≡ some family
 kind-frame none family e = let z : _≡_ {A = ℕ} 0 1 = cc in absurd (omega arith)
 kind-frame (some g) family e = let q : g ≡ family = cc in ap {B = Option Family} some q
 

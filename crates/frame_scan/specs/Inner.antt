@@ -71,6 +71,10 @@ module _ (v : Version) (o : Order) (file spans : List ℕ) (stop : ℕ) where
 
 -- ---- one turn of the loop
 
+-- no frame began yet: the code's numbers for the machine's first state
+abbrev pub noPlace : Place
+noPlace = record { rank = 8; id = 0; pre = 0; due = 0 }
+
 abbrev pub kindOf : Option Family → Kind
 kindOf none = Other
 kindOf (some family) = Frame family

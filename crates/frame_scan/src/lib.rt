@@ -5,12 +5,15 @@ ghost use lib.ListN.{length};
 ghost use Rattle.grammar.specs.Machine.{initial};
 ghost use Rattle.frame_order.specs.Inner.{orderOf};
 ghost use Rattle.frame_scan.specs.Counts.{noTally};
-ghost use Rattle.frame_scan.specs.Inner.{scan, tallied, ranOf, tallyIn, endsAt, tellsAt};
+ghost use Rattle.frame_scan.specs.Inner.{noPlace, scan, tallied, ranOf, tallyIn, endsAt, tellsAt};
 
+pub mod alike;
 pub mod event;
+pub mod leap;
 pub mod sizes;
 pub mod tally;
 
+use alike::goes_on;
 use event::Kind;
 use event::Turn;
 use event::kind_of;
@@ -21,6 +24,8 @@ use frame_order::place::Place;
 use frame_order::place::is_closed;
 use layout::columns::Family;
 use layout::payloads::record_size;
+use leap::begins;
+use leap::leapt;
 use sizes::sizes_of;
 use tally::Tally;
 use tally::counted;
@@ -30,6 +35,18 @@ use tally::nothing;
 pub enum Ran {
     Ended { at: usize, tally: Tally },
     Wrong,
+}
+
+// No frame began yet.
+fn outset() -> Place
+    ensures { λ r. ⌜ r ≡ noPlace ⌝ }
+{
+    Place {
+        rank: 8,
+        id: 0,
+        pre: 0,
+        due: 0,
+    }
 }
 
 // The frames end at a place, where a frame may end there.
@@ -51,16 +68,20 @@ pub fn frames(file: &[u8], spans: &[u32], v: Version, any: bool, first: usize, s
 {
     let sizes = sizes_of(v);
     let span = 1 + record_size(Family::Pre, v);
-    let mut m = Place {
-        rank: 8,
-        id: 0,
-        pre: 0,
-        due: 0,
-    };
+    let mut m = outset();
     let mut at = first;
+    let mut last = first;
     let mut tally = nothing();
     while at < stop {
         let code = file[at];
+        if goes_on(file, spans, v, m, code, last, at, stop) {
+            let far = leapt(file, m, tally, last, at);
+            tally = far.tally;
+            m = far.place;
+            last += far.by;
+            at += far.by;
+            continue;
+        }
         let k = kind_of(code);
         let Kind::Frame(family) = k else {
             return ended(v, m, at, tally);
@@ -77,6 +98,7 @@ pub fn frames(file: &[u8], spans: &[u32], v: Version, any: bool, first: usize, s
                 word: word,
             } => {
                 tally = counted(tally, m, family, word);
+                last = begins(family, last, at);
                 m = place;
                 at = next;
             }

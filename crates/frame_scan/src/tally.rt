@@ -47,13 +47,24 @@ pub fn is_marked(slots: usize, k: usize) -> bool
 }
 
 // A frame of this id begins, after one of an old id.
-fn begun(t: Tally, old: u32, id: u32) -> Tally
+pub fn begun(t: Tally, old: u32, id: u32) -> Tally
     requires { ⌜ Room t ⌝ }
     ensures { λ r. ⌜ r ≡ begunAt t old id ⌝ }
 {
     let mut u = t;
     u.frames = t.frames + 1;
     u.changing = t.changing & ((t.frames == 0) | !(old == id));
+    u
+}
+
+// The same after a frame that was counted.
+pub fn begun_next(t: Tally, old: u32, id: u32) -> Tally
+    requires { ⌜ Room t × (0 < t .frames) ⌝ }
+    ensures { λ r. ⌜ r ≡ begunAt t old id ⌝ }
+{
+    let mut u = t;
+    u.frames = t.frames + 1;
+    u.changing = t.changing & !(old == id);
     u
 }
 

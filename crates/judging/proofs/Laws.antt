@@ -3,21 +3,20 @@
 use Prim.Native.Nat.{ℕ, zero, suc, _+_, _*_, _-_, _/_, _^_, _≤_, _<_}
 use mathlib.Core.Path.{_≡_, refl, sym, ap, subst, _∙_}
 use mathlib.Core.Bool.{Bool, true, false, not, cond, _||_}
-use mathlib.Core.List.{List, [], _∷_, _++_}
+use mathlib.Core.List.{List, [], _∷_}
 use native.Mathlib.Omega.{arith}
 use native.Mathlib.Nat.{mul-comm}
 use borrow.Author.Tests.{le-ltb}
 use lib.Dec.{eqb, ltb, lit<}
 use lib.ListN.{length, getD, take, drop, length-take}
 use lib.Seq.{getD-drop}
-use Rattle.wire.specs.Wire.{number, part, ranged}
+use Rattle.wire.specs.Wire.{number, part}
 use Rattle.wire.proofs.Laws.{length-ranged-below}
-use Rattle.format.specs.Refusal.{refuse, lowest, oneOf}
+use Rattle.format.specs.Refusal.{refuse, lowest}
 use Rattle.format.specs.Version.{acceptedOf}
-use Rattle.format.specs.File.{Entry}
 use Rattle.format.specs.declared.version.Version.{Version}
 use Rattle.record.proofs.Numbers.{number-small}
-use Rattle.head.specs.Table.{stopOf, allPresent, entriesIn, tableOf, firstPlace, spanOf, headRefusal, headOffset}
+use Rattle.head.specs.Table.{stopOf, entriesIn, tableOf, firstPlace, spanOf}
 use Rattle.head.specs.Numbers.{stepNumbers}
 use Rattle.head.specs.Inner.{HeadOf, Opened}
 use Rattle.head.specs.declared.Step.{Step}
@@ -28,25 +27,23 @@ use Rattle.de.specs.Numbers.{WalkNumbers, walkNumbers}
 use Rattle.de.specs.Cut.{eventsRead}
 use Rattle.de.specs.declared.Walked.{Walked}
 use Rattle.de.specs.declared.Walked.the-variants as walked
-use Rattle.de.proofs.Runs.{refused}
+use Rattle.de.proofs.Runs.{refused-walk}
 use Rattle.de.proofs.Only.{refused-by-number}
 use Rattle.grammar.specs.WellFormed.{Each}
 use Rattle.frames.specs.Judge.{tooMany}
-use Rattle.frame_scan.specs.declared.tally.Tally.{Tally}
 use Rattle.game.specs.declared.frames.Frames.{Frames}
 use Rattle.columns.specs.Columns.{framesRead}
 use Rattle.outline.specs.Listed.{codesBytes}
 use Rattle.outline.proofs.Laws.{length-part}
 use Rattle.found.specs.Found.{opensWrong, versionOf, earlyRefusal, offsetOf, Found, tooBig}
-use Rattle.found.specs.Inner.{Bytes, firstAt, Covers, Ready, Tallied, Holds, Begins, Counted, Refuses, early, none, big, Accepts, Verdicts}
+use Rattle.found.specs.Inner.{Bytes, firstAt, Covers, Ready, Holds, Counted, Refuses, early, none, big, Accepts, Verdicts}
 use Rattle.found.specs.declared.Verdict.{Verdict}
-use Rattle.found.specs.declared.Verdict.the-variants as verdict
 use Rattle.found.specs.declared.first.First.{First}
 use Rattle.found.specs.declared.first.First.the-variants.{Opens, Other}
 use Rattle.found.specs.declared.parts.Parts.{Parts}
 use Rattle.found.proofs.Walked.{all-read, comes-to-end}
 use Rattle.found.proofs.Opening as opening
-use Rattle.judging.specs.Inner.{refusedAs, countsBy}
+use Rattle.judging.specs.Inner.{refusedAs, countsBy, WalkDone, Headed, Started}
 
 -- ---- the walk
 
@@ -69,20 +66,16 @@ walk-refused f w number offset e q =
 
 -- ---- the head
 
-head-accepted : (f : List ℕ) → walkNumbers (walkOf f) .kind ≡ 0 → headRefusal f ≡ 0
-head-accepted f k = go (headRefusal f) refl
-  where
-    go : (n : ℕ) → headRefusal f ≡ n → n ≡ 0
-    go zero e = refl
-    go (suc n) e = absurd (omega (arith, sym (ap (λ x. walkNumbers x .kind) (refused f n e .0)) ∙ k))
+pub head-refused : (f spans : List ℕ) (h : Head) → HeadOf h spans f → (h .refusal ≡ 0 → ⊥) → Refuses f (h .refusal) (h .offset)
+head-refused f spans h o n = walk-refused f (walkOf f) (h .refusal) (h .offset) refl (sym (refused-walk f (h .refusal) (h .offset) (o .refusal-is) (o .offset-is) n))
 
-pub begins : (f spans : List ℕ) (h : Head) → HeadOf h spans f → walkNumbers (walkOf f) .kind ≡ 0 → Begins f spans (h .first) (h .stop) (h .whole)
-begins f spans h o k =
-    let a = head-accepted f k in
+pub headed : (f spans : List ℕ) (h : Head) → HeadOf h spans f → Bytes f → h .refusal ≡ 0 → Headed f spans (h .first) (h .stop) (h .whole)
+headed f spans h o bytes e =
+    let a = sym (o .refusal-is) ∙ e in
     let r = o .opened a 0 (omega arith) in
     record {
       accepted = a;
-      walked = k;
+      bytes = bytes;
       many = r .index .many;
       index = r .index .spans-are;
       first-is = r .first-is;
@@ -91,6 +84,10 @@ begins f spans h o k =
       starts = r .starts;
       within = r .within;
     }
+
+pub started : (f spans : List ℕ) (first stop : ℕ) (whole : Bool) → Headed f spans first stop whole → whole ≡ true → (v : Version) (len : ℕ) (e : First) → e ≡ firstAt f spans first stop → e ≡ Opens v len
+    → Started f spans v first stop len
+started f spans first stop whole h w v len e q o = record { headed = subst (λ (b : Bool). Headed f spans first stop b) w h; opens = sym q ∙ o }
 
 -- ---- the table's sizes have two bytes
 
@@ -136,22 +133,22 @@ not-refused f k = step-refused (stopOf f) (length (runOf f .seen)) (runOf f .pla
 
 -- ---- the first event
 
-module _ (f spans : List ℕ) (first stop : ℕ) (whole : Bool) (b : Begins f spans first stop whole) (bytes : Bytes f) where
+module _ (f spans : List ℕ) (first stop : ℕ) (whole : Bool) (h : Headed f spans first stop whole) (k : WalkDone f) where
   starts-here : firstPlace (tableOf f) ≤ stopOf f
-  starts-here = omega (arith, b .first-is, b .stop-is, b .starts)
+  starts-here = omega (arith, h .first-is, h .stop-is, h .starts)
 
-  first-said : (e : First) → e ≡ firstAt f spans first stop → opening.FirstSays f spans (b .accepted) bytes (b .index) starts-here e
+  first-said : (e : First) → e ≡ firstAt f spans first stop → opening.FirstSays f spans (h .accepted) (h .bytes) (h .index) starts-here e
   first-said e q =
-      subst (opening.FirstSays f spans (b .accepted) bytes (b .index) starts-here)
-      (sym (q ∙ ap (λ (n : ℕ). firstAt f spans n stop) (b .first-is) ∙ ap (λ (n : ℕ). firstAt f spans (firstPlace (tableOf f)) n) (b .stop-is)))
-      (opening.first-said f spans (b .accepted) bytes (b .index) starts-here)
+      subst (opening.FirstSays f spans (h .accepted) (h .bytes) (h .index) starts-here)
+      (sym (q ∙ ap (λ (n : ℕ). firstAt f spans n stop) (h .first-is) ∙ ap (λ (n : ℕ). firstAt f spans (firstPlace (tableOf f)) n) (h .stop-is)))
+      (opening.first-said f spans (h .accepted) (h .bytes) (h .index) starts-here)
 
   offset-none : 0 ≡ offsetOf f
-  offset-none = sym (no-offset (walkOf f) (b .walked))
+  offset-none = sym (no-offset (walkOf f) k)
 
   by-events : earlyRefusal f ≡ lowest (refuse 19 (opensWrong (eventsRead f)) ∷ refuse 1 (not (acceptedOf (versionOf f))) ∷ [])
   unfolding earlyRefusal lowest
-  by-events = rw (b .walked)
+  by-events = rw k
 
   pub opens-not : (e : First) → e ≡ firstAt f spans first stop → e ≡ Other → Verdicts f (refusedAs 19)
   unfolding lowest
@@ -169,13 +166,35 @@ module _ (f spans : List ℕ) (first stop : ℕ) (whole : Bool) (b : Begins f sp
     right = rw (said .events-are) (longer (length (said .block)) (omega (arith, said .long, said .len-is)))
       where
         longer : (n : ℕ) → 4 ≤ n → false || ltb n 4 ≡ false
-        longer n h = le-ltb n 4 h
+        longer n l = le-ltb n 4 l
 
     pub too-new : acceptedOf v ≡ false → Verdicts f (refusedAs 1)
     unfolding lowest
     too-new a =
         let is : earlyRefusal f ≡ 1 = by-events ∙ rw (right, ← said .version-is, a) in
         early (λ z. omega arith) (sym is) offset-none
+
+    pub ready : whole ≡ true → Ready f spans v first stop len
+    unfolding Each
+    ready w =
+        let present = sym (h .whole-is) ∙ w in
+        let ends = comes-to-end f spans (h .accepted) (h .bytes) (h .index) starts-here present (not-refused f k) in
+        let all = all-read f spans (h .accepted) (h .bytes) (h .index) starts-here ends in
+        let covers = subst (λ l. Covers f spans first stop l) (said .events-are) (subst (λ (n : ℕ). Covers f spans n stop (eventsRead f)) (sym (h .first-is)) (subst (λ (n : ℕ). Covers f spans (firstPlace (tableOf f)) n (eventsRead f)) (sym (h .stop-is)) all)) in
+        record {
+          block = said .block;
+          others = said .others;
+          covers = covers;
+          events-are = said .events-are;
+          len-is = said .len-is;
+          short = omega (arith, table-small f (h .bytes) 0x36, h .index 0x36 (lit< tt), covers .spanned .0, said .len-is);
+          version-is = said .version-is;
+          present = present;
+          stop-is = h .stop-is;
+          within = h .within;
+          many = h .many;
+          listed = h .index 0x3D (lit< tt);
+        }
 
     module _ (a : acceptedOf v ≡ true) where
       pub none-early : earlyRefusal f ≡ 0
@@ -186,32 +205,10 @@ module _ (f spans : List ℕ) (first stop : ℕ) (whole : Bool) (b : Begins f sp
       not-held n = none none-early n refl refl
 
       pub cut : whole ≡ false → Verdicts f (refusedAs 19)
-      cut w = not-held (λ x. let z : _≡_ {A = ℕ} 0 1 = ap (λ (c : Bool). cond c 0 1) (sym (x .whole) ∙ sym (b .whole-is) ∙ w) in omega arith)
-
-      pub ready : whole ≡ true → Ready f spans v first stop len
-      unfolding Each
-      ready w =
-          let present = sym (b .whole-is) ∙ w in
-          let ends = comes-to-end f spans (b .accepted) bytes (b .index) starts-here present (not-refused f (b .walked)) in
-          let all = all-read f spans (b .accepted) bytes (b .index) starts-here ends in
-          let covers = subst (λ l. Covers f spans first stop l) (said .events-are) (subst (λ (n : ℕ). Covers f spans n stop (eventsRead f)) (sym (b .first-is)) (subst (λ (n : ℕ). Covers f spans (firstPlace (tableOf f)) n (eventsRead f)) (sym (b .stop-is)) all)) in
-          record {
-            block = said .block;
-            others = said .others;
-            covers = covers;
-            events-are = said .events-are;
-            len-is = said .len-is;
-            short = omega (arith, table-small f bytes 0x36, b .index 0x36 (lit< tt), covers .spanned .0, said .len-is);
-            version-is = said .version-is;
-            present = present;
-            stop-is = b .stop-is;
-            within = b .within;
-            many = b .many;
-            listed = b .index 0x3D (lit< tt);
-          }
+      cut w = not-held (λ x. let z : _≡_ {A = ℕ} 0 1 = ap (λ (c : Bool). cond c 0 1) (sym (x .whole) ∙ sym (h .whole-is) ∙ w) in omega arith)
 
       pub counted : (p : Parts) → Holds f first stop p → Counted f first stop p
-      counted p h = record { early = none-early; holds = h; first-is = b .first-is; stop-is = b .stop-is; within = b .within }
+      counted p held = record { early = none-early; holds = held; first-is = h .first-is; stop-is = h .stop-is; within = h .within }
 
 -- ---- the counts
 

@@ -1,9 +1,7 @@
-// Which replay a file holds: the walk, the first event, then the parts of the event data, and its counts.
+// Which replay a file holds: its head, the first event, then the parts of the event data, and its counts; where these do not hold, the walk.
 ghost use mathlib.Core.Path.{_≡_};
-ghost use Rattle.de.specs.Walk.{walkOf};
-ghost use Rattle.de.specs.Numbers.{walkNumbers};
-ghost use Rattle.found.specs.Inner.{Begins, Counted, Verdicts};
-ghost use Rattle.judging.specs.Inner.{refusedAs, countsBy};
+ghost use Rattle.found.specs.Inner.{Counted, Verdicts};
+ghost use Rattle.judging.specs.Inner.{refusedAs, countsBy, WalkDone, Headed};
 use de::Walked;
 use format::refusal::BAD_EVENTS;
 use format::refusal::TOO_MANY;
@@ -67,40 +65,9 @@ fn judge_counts(file: &[u8], first: usize, stop: usize, parts: Parts) -> Verdict
     Verdict::Held { first, stop, parts }
 }
 
-// The events of a file that was walked.
-fn judge_events(file: &[u8], spans: &[u32], first: usize, stop: usize, whole: bool) -> Verdict
-    requires { ⌜ Begins (now file) (now spans) first stop whole ⌝ }
-    ensures { λ r. ⌜ Verdicts (now (file .entry)) r ⌝ }
-{
-    let e = first_event(file, spans, first, stop);
-    let First::Opens { version, len } = e else {
-        return refused(BAD_EVENTS);
-    };
-    if !version.accepted() {
-        return refused(VERSION_TOO_NEW);
-    }
-    if !whole {
-        return refused(BAD_EVENTS);
-    }
-    let j = judge_parts(file, spans, version, first, stop, len);
-    let Judged::Held { parts } = j else {
-        return refused(BAD_EVENTS);
-    };
-    judge_counts(file, first, stop, parts)
-}
-
-// A file whose walk is not refused.
-fn judge_walked(file: &[u8]) -> Verdict
-    requires { ⌜ walkNumbers (walkOf (now file)) .kind ≡ 0 ⌝ }
-    ensures { λ r. ⌜ Verdicts (now (file .entry)) r ⌝ }
-{
-    let mut spans = [0u32; 256];
-    let h = head::table::parse_head(file, &mut spans);
-    judge_events(file, &spans, h.first, h.stop, h.whole)
-}
-
-// Any file.
-pub fn judge(file: &[u8]) -> Verdict
+// A file that is refused with a number, unless its walk is refused first. Only here is a file walked.
+fn unless_walk_refused(file: &[u8], number: u8) -> Verdict
+    requires { ⌜ (WalkDone (now file) → Verdicts (now file) (refusedAs number)) ⌝ }
     ensures { λ r. ⌜ Verdicts (now (file .entry)) r ⌝ }
 {
     let w = de::walk(file);
@@ -111,6 +78,43 @@ pub fn judge(file: &[u8]) -> Verdict
             stray: _,
             whole: _,
             place: _,
-        } => judge_walked(file),
+        } => refused(number),
     }
+}
+
+// A file whose head is accepted. Where its parts hold they go over every event, so that it is not walked.
+fn judge_events(file: &[u8], spans: &[u32], first: usize, stop: usize, whole: bool) -> Verdict
+    requires { ⌜ Headed (now file) (now spans) first stop whole ⌝ }
+    ensures { λ r. ⌜ Verdicts (now (file .entry)) r ⌝ }
+{
+    let e = first_event(file, spans, first, stop);
+    let First::Opens { version, len } = e else {
+        return unless_walk_refused(file, BAD_EVENTS);
+    };
+    if !version.accepted() {
+        return unless_walk_refused(file, VERSION_TOO_NEW);
+    }
+    if !whole {
+        return unless_walk_refused(file, BAD_EVENTS);
+    }
+    let j = judge_parts(file, spans, version, first, stop, len);
+    let Judged::Held { parts } = j else {
+        return unless_walk_refused(file, BAD_EVENTS);
+    };
+    judge_counts(file, first, stop, parts)
+}
+
+// Any file.
+pub fn judge(file: &[u8]) -> Verdict
+    ensures { λ r. ⌜ Verdicts (now (file .entry)) r ⌝ }
+{
+    let mut spans = [0u32; 256];
+    let h = head::table::parse_head(file, &mut spans);
+    if h.refusal != 0 {
+        return Verdict::Refused {
+            number: h.refusal,
+            offset: h.offset,
+        };
+    }
+    judge_events(file, &spans, h.first, h.stop, h.whole)
 }

@@ -1,5 +1,5 @@
 // The parts after the first event, each judged in one pass.
-ghost use Rattle.found.specs.Inner.{Ready, Judges};
+ghost use Rattle.judging.specs.Inner.{Started, JudgesFirst};
 use format::version::Version;
 use found::parts::Judged;
 use found::parts::Parts;
@@ -18,8 +18,8 @@ pub fn judge_parts(
     stop: usize,
     len: usize,
 ) -> Judged
-    requires { ⌜ Ready (now file) (now spans) v first stop len ⌝ }
-    ensures { λ r. ⌜ Judges (now (file .entry)) first stop r ⌝ }
+    requires { ⌜ Started (now file) (now spans) v first stop len ⌝ }
+    ensures { λ r. ⌜ JudgesFirst (now (file .entry)) first stop r ⌝ }
 {
     let codes_at = first + 1 + len;
     if !start_fits(file, first + 1, len, v) {

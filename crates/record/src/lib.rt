@@ -79,7 +79,7 @@ pub fn put(
 }
 
 // Four bytes as a number, the highest first.
-fn get_four(s: &[u8], at: usize) -> u32
+pub fn get_four(s: &[u8], at: usize) -> u32
     requires { ⌜ at + 4 ≤ length (now s) ⌝ }
     ensures { λ r. ⌜ r ≡ number (part (now (s .entry)) at 4) ⌝ }
 {

@@ -1,4 +1,4 @@
--- `frame_scan::frames` meets its contract. The invariant: the answers are those of what is left.
+-- `frame_scan::frames` meets its contract. The invariant: the answers are those of what is left, and the events of the last frame are known.
 -- Assumes nothing.
 use borrow.Author.Needs.{needs}
 use mathlib.Core.Path.{refl, sym, ap, _∙_}
@@ -7,26 +7,31 @@ use native.Mathlib.Omega.{arith}
 use lib.ListN.{length, getD}
 use Rattle.frame_order.specs.Inner.{orderOf}
 use Rattle.frame_scan.proofs.Counting.{under-to}
-use Rattle.frame_scan.proofs.Turns.{Turning, turn-first, turn-end, turn-other, turn-refused, turn-goes, tried-as}
+use Rattle.frame_scan.proofs.Jumps.{Turned, turned-first, turned-goes, turned-leaps}
+use Rattle.frame_scan.proofs.Turns.{turn-end, turn-other, turn-refused, tried-as}
 use Rattle.frame_scan.specs.declared.event.Turn.the-variants.{Goes, Refused}
 use Rattle.frame_scan.proofs.frames.Statement.{statement}
 use Rattle.frame_scan.proofs.frames.Tie as tie
 use Rattle.frame_scan.proofs.frames.Reads as reads
 use Rattle.frame_scan.proofs.frames.Lts as lts
+use Rattle.frame_scan.proofs.alike.goes_on.Reads as goes-on-reads
 use Rattle.frame_scan.proofs.ended.Reads as ended-reads
 use Rattle.frame_scan.proofs.event.kind_of.Reads as kind-of-reads
 use Rattle.frame_scan.proofs.event.span_of.Reads as span-of-reads
 use Rattle.frame_scan.proofs.event.try_event.Reads as try-event-reads
+use Rattle.frame_scan.proofs.leap.begins.Reads as begins-reads
+use Rattle.frame_scan.proofs.leap.leapt.Reads as leapt-reads
+use Rattle.frame_scan.proofs.outset.Reads as outset-reads
 use Rattle.frame_scan.proofs.sizes.sizes_of.Reads as sizes-of-reads
 use Rattle.frame_scan.proofs.tally.counted.Reads as counted-reads
 use Rattle.frame_scan.proofs.tally.nothing.Reads as nothing-reads
 use Rattle.layout.proofs.payloads.record_size.Reads as record-size-reads
 
 abbrev Inv-loop : tie.InvT-loop
-Inv-loop file spans v any first stop sizes span m₀ at₀ tally₀ m at tally = Turning v (orderOf any) file spans stop span first m at tally
+Inv-loop file spans v any first stop sizes span m₀ at₀ last₀ tally₀ m at last tally = Turned v (orderOf any) file spans stop span first m at tally last
 
 abbrev μ-loop : tie.MeasureT-loop
-μ-loop file spans v any first stop sizes span m₀ at₀ tally₀ m at tally = stop - at
+μ-loop file spans v any first stop sizes span m₀ at₀ last₀ tally₀ m at last tally = stop - at
 
 sizes-of-requires : tie.Need-sizes-of-requires Inv-loop μ-loop
 sizes-of-requires c κs = tt
@@ -37,18 +42,48 @@ record-size-requires c κs = tt
 add-span : tie.Need-add-span Inv-loop μ-loop
 add-span c = search needs
 
+outset-requires : tie.Need-outset-requires Inv-loop μ-loop
+outset-requires c κs = tt
+
 nothing-requires : tie.Need-nothing-requires Inv-loop μ-loop
 nothing-requires c κs = tt
 
 loop-holds : tie.Need-loop-holds Inv-loop μ-loop
 loop-holds c =
-    let a = c .before .before .before .before .before .args in
-    let h = c .before .before .before .before .before .pre in
-    turn-first (a .v) (orderOf (a .any)) (a .file .now) (a .spans .now) (a .stop) _ (a .first) (h .0) (h .1) (ap (λ n. 1 + n) (c .before .record-size .ensures .0)) (c .nothing .result)
-    (c .nothing .ensures)
+    let a = c .before .before .before .before .before .before .args in
+    let h = c .before .before .before .before .before .before .pre in
+    turned-first (a .v) (orderOf (a .any)) (a .file .now) (a .spans .now) (a .stop) _ (a .first) (h .0) (h .1) (ap (λ n. 1 + n) (c .before .before .record-size .ensures .0)) (c .before .outset .result) (c .before .outset .ensures)
+    (c .nothing .result) (c .nothing .ensures)
 
 shared-slice-read-code : tie.Need-shared-slice-read-code Inv-loop μ-loop
-shared-slice-read-code c = omega (arith, c .before .before .loop .inv .asked .long)
+shared-slice-read-code c = omega (arith, c .before .before .loop .inv .turning .asked .long)
+
+goes-on-requires : tie.Need-goes-on-requires Inv-loop μ-loop
+goes-on-requires c κs = let t = c .before .before .loop .inv in (t .behind, t .turning .asked .under, t .turning .asked .long, c .before .before .before .before .before .before .before .before .before .pre .2)
+
+leapt-requires : tie.Need-leapt-requires Inv-loop μ-loop
+leapt-requires c κs =
+    let t = c .before .before .before .before .loop .inv in
+    let e = c .before .goes-on .ensures (c .if1 .taken) .1 in
+    (e .later, omega (arith, e .fits, t .turning .asked .long), t .turning .under)
+
+add-last : tie.Need-add-last Inv-loop μ-loop
+add-last c = let t = c .before .before .before .before .before .before .before .before .loop .inv in omega (arith, c .before .before .before .before .before .goes-on .ensures (c .before .before .before .before .if1 .taken) .1 .fits, t .turning .asked .long, t .behind, c .before .before .before .leapt .ensures .2, c .before .before .before .before .before .before .before .before .before .before .before .before .before .before .before .good)
+
+add-at : tie.Need-add-at Inv-loop μ-loop
+add-at c = let t = c .before .before .before .before .before .before .before .before .before .loop .inv in omega (arith, c .before .before .before .before .before .before .goes-on .ensures (c .before .before .before .before .before .if1 .taken) .1 .fits, t .turning .asked .long, c .before .before .before .before .leapt .ensures .2, c .before .before .before .before .before .before .before .before .before .before .before .before .before .before .before .before .good)
+
+loop-less : tie.Need-loop-less Inv-loop μ-loop
+loop-less c = let e = c .before .before .before .before .before .before .goes-on .ensures (c .before .before .before .before .before .if1 .taken) .1 in omega (arith, e .fits, e .later, c .before .before .before .before .leapt .ensures .2)
+
+loop-again : tie.Need-loop-again Inv-loop μ-loop
+loop-again c =
+    let a = c .before .before .before .before .before .before .before .before .before .before .before .before .before .before .before .before .args in
+    let l = c .before .before .before .before .before .before .before .before .before .loop in
+    let g = c .before .before .before .before .before .before .goes-on .ensures (c .before .before .before .before .before .if1 .taken) in
+    let r = c .before .before .before .before .leapt in
+    turned-leaps (a .v) (orderOf (a .any)) (a .file .now) (a .spans .now) (a .stop) _ (a .first) (l .m) (l .at) (l .tally) (l .last) (l .inv) (g .0) (g .1) (r .result .place)
+    (r .ensures .0) (r .result .tally) (r .ensures .1) (r .result .by) (r .ensures .2)
 
 kind-of-requires : tie.Need-kind-of-requires Inv-loop μ-loop
 kind-of-requires c κs = tt
@@ -64,36 +99,36 @@ ended-requires c κs = tt
 
 returns : tie.Need-returns Inv-loop μ-loop
 returns c =
-    let a = c .before .before .before .before .before .before .before .before .before .before .before .before .args in
-    let l = c .before .before .before .before .before .before .loop in
+    let a = c .before .before .before .before .before .before .before .before .before .before .before .before .before .before .before .args in
+    let l = c .before .before .before .before .before .before .before .before .loop in
     let code = getD (a .file .now) (l .at) 0 in
     let q =
-    turn-other (a .v) (orderOf (a .any)) (a .file .now) (a .spans .now) (a .stop) _ (a .first) (l .m) (l .at) (l .tally) (l .inv) (omega arith) code refl
+    turn-other (a .v) (orderOf (a .any)) (a .file .now) (a .spans .now) (a .stop) _ (a .first) (l .m) (l .at) (l .tally) (l .inv .turning) (c .before .before .before .before .before .before .before .loop-test .taken) code refl
     (sym (c .before .before .before .kind-of .ensures) ∙ c .before .enum-told .given .1) in
     (c .ended .ensures .0 ∙ q .0, c .ended .ensures .1 ∙ q .1)
 
 span-of-requires : tie.Need-span-of-requires Inv-loop μ-loop
-span-of-requires c κs = c .before .before .before .before .before .before .before .before .before .before .before .before .pre .2
+span-of-requires c κs = c .before .before .before .before .before .before .before .before .before .before .before .before .before .before .before .pre .2
 
 slice-aggregate-try-event : tie.Need-slice-aggregate-try-event Inv-loop μ-loop
-slice-aggregate-try-event c = sym (ap length (c .before .before .before .before .before .before .before .before .before .before .before .sizes-of .ensures))
+slice-aggregate-try-event c = sym (ap length (c .before .before .before .before .before .before .before .before .before .before .before .before .before .before .sizes-of .ensures))
 
 try-event-requires : tie.Need-try-event-requires Inv-loop μ-loop
-try-event-requires c κs = (c .before .before .before .before .before .before .before .before .loop .inv .asked, c .before .before .before .before .before .before .before .before .before .before .before .sizes-of .ensures, c .before .span-of .ensures .1)
+try-event-requires c κs = (c .before .before .before .before .before .before .before .before .before .before .loop .inv .turning .asked, c .before .before .before .before .before .before .before .before .before .before .before .before .before .before .sizes-of .ensures, c .before .span-of .ensures .1)
 
 enum-told-2 : tie.Need-enum-told-2 Inv-loop μ-loop
 enum-told-2 c = search needs
 
 returns-2 : tie.Need-returns-2 Inv-loop μ-loop
 returns-2 c =
-    let a = c .before .before .before .before .before .before .before .before .before .before .before .before .before .before .before .before .before .args in
-    let l = c .before .before .before .before .before .before .before .before .before .before .before .loop in
+    let a = c .before .before .before .before .before .before .before .before .before .before .before .before .before .before .before .before .before .before .before .before .args in
+    let l = c .before .before .before .before .before .before .before .before .before .before .before .before .before .loop in
     let code = getD (a .file .now) (l .at) 0 in
     let k = c .before .before .before .before .before .before .k .given in
     let kind = sym (c .before .before .before .before .before .before .before .before .kind-of .ensures) ∙ k .1 in
     let n = c .before .before .before .before .span-of in
     let e = c .before .before .try-event in
-    turn-refused (a .v) (orderOf (a .any)) (a .file .now) (a .spans .now) (a .stop) _ (a .first) (l .m) (l .at) (l .tally) (l .inv) (omega arith) code refl (k .0 .0) kind
+    turn-refused (a .v) (orderOf (a .any)) (a .file .now) (a .spans .now) (a .stop) _ (a .first) (l .m) (l .at) (l .tally) (l .inv .turning) (c .before .before .before .before .before .before .before .before .before .before .before .before .loop-test .taken) code refl (k .0 .0) kind
     (n .result) (n .ensures .0)
     (tried-as (a .v) (orderOf (a .any)) (a .file .now) _ (a .stop) (l .m) (l .at) (n .result) (k .0 .0) (e .result) Refused (c .enum-told2 .given .1) (e .ensures))
 
@@ -102,55 +137,54 @@ enum-known-t c = search needs
 
 counted-requires : tie.Need-counted-requires Inv-loop μ-loop
 counted-requires c κs =
-    let a = c .before .before .before .before .before .before .before .before .before .before .before .before .before .before .before .before .before .before .args in
-    let l = c .before .before .before .before .before .before .before .before .before .before .before .before .loop in
-    let code = getD (a .file .now) (l .at) 0 in
+    let a = c .before .before .before .before .before .before .before .before .before .before .before .before .before .before .before .before .before .before .before .before .before .args in
+    let l = c .before .before .before .before .before .before .before .before .before .before .before .before .before .before .loop in
     let k = c .before .before .before .before .before .before .before .k .given in
-    let kind = sym (c .before .before .before .before .before .before .before .before .before .kind-of .ensures) ∙ k .1 in
     let n = c .before .before .before .before .before .span-of in
     let e = c .before .before .before .try-event in
     let t = c .before .t .given in
     let g =
     tried-as (a .v) (orderOf (a .any)) (a .file .now) _ (a .stop) (l .m) (l .at) (n .result) (k .0 .0) (e .result) (Goes (t .0 .0) (t .0 .1 .0) (t .0 .1 .1 .0)) (t .1) (e .ensures) in
-    (under-to (l .tally) (l .at) (2 ^ 64 - 2) (l .inv .under) (omega arith), g .seated)
+    (under-to (l .tally) (l .at) (2 ^ 64 - 2) (l .inv .turning .under) (omega arith), g .seated)
 
-loop-less : tie.Need-loop-less Inv-loop μ-loop
-loop-less c =
-    let a = c .before .before .before .before .before .before .before .before .before .before .before .before .before .before .before .before .before .before .before .args in
-    let l = c .before .before .before .before .before .before .before .before .before .before .before .before .before .loop in
-    let code = getD (a .file .now) (l .at) 0 in
-    let k = c .before .before .before .before .before .before .before .before .k .given in
-    let kind = sym (c .before .before .before .before .before .before .before .before .before .before .kind-of .ensures) ∙ k .1 in
-    let n = c .before .before .before .before .before .before .span-of in
-    let e = c .before .before .before .before .try-event in
-    let t = c .before .before .t .given in
+begins-requires : tie.Need-begins-requires Inv-loop μ-loop
+begins-requires c κs = tt
+
+loop-less-2 : tie.Need-loop-less-2 Inv-loop μ-loop
+loop-less-2 c =
+    let a = c .before .before .before .before .before .before .before .before .before .before .before .before .before .before .before .before .before .before .before .before .before .before .before .args in
+    let l = c .before .before .before .before .before .before .before .before .before .before .before .before .before .before .before .before .loop in
+    let k = c .before .before .before .before .before .before .before .before .before .k .given in
+    let n = c .before .before .before .before .before .before .before .span-of in
+    let e = c .before .before .before .before .before .try-event in
+    let t = c .before .before .before .t .given in
     let g =
     tried-as (a .v) (orderOf (a .any)) (a .file .now) _ (a .stop) (l .m) (l .at) (n .result) (k .0 .0) (e .result) (Goes (t .0 .0) (t .0 .1 .0) (t .0 .1 .1 .0)) (t .1) (e .ensures) in
     omega (arith, g .later, g .asked .under)
 
-loop-again : tie.Need-loop-again Inv-loop μ-loop
-loop-again c =
-    let a = c .before .before .before .before .before .before .before .before .before .before .before .before .before .before .before .before .before .before .before .args in
-    let l = c .before .before .before .before .before .before .before .before .before .before .before .before .before .loop in
+loop-again-2 : tie.Need-loop-again-2 Inv-loop μ-loop
+loop-again-2 c =
+    let a = c .before .before .before .before .before .before .before .before .before .before .before .before .before .before .before .before .before .before .before .before .before .before .before .args in
+    let l = c .before .before .before .before .before .before .before .before .before .before .before .before .before .before .before .before .loop in
     let code = getD (a .file .now) (l .at) 0 in
-    let k = c .before .before .before .before .before .before .before .before .k .given in
-    let kind = sym (c .before .before .before .before .before .before .before .before .before .before .kind-of .ensures) ∙ k .1 in
-    let n = c .before .before .before .before .before .before .span-of in
-    let e = c .before .before .before .before .try-event in
-    let t = c .before .before .t .given in
+    let k = c .before .before .before .before .before .before .before .before .before .k .given in
+    let kind = sym (c .before .before .before .before .before .before .before .before .before .before .before .kind-of .ensures) ∙ k .1 in
+    let n = c .before .before .before .before .before .before .before .span-of in
+    let e = c .before .before .before .before .before .try-event in
+    let t = c .before .before .before .t .given in
     let g =
     tried-as (a .v) (orderOf (a .any)) (a .file .now) _ (a .stop) (l .m) (l .at) (n .result) (k .0 .0) (e .result) (Goes (t .0 .0) (t .0 .1 .0) (t .0 .1 .1 .0)) (t .1) (e .ensures) in
-    turn-goes (a .v) (orderOf (a .any)) (a .file .now) (a .spans .now) (a .stop) _ (a .first) (l .m) (l .at) (l .tally) (l .inv) (omega arith) code refl (k .0 .0) kind
-    (n .result) (n .ensures .0) (t .0 .0) (t .0 .1 .0) (t .0 .1 .1 .0) g (c .counted .result) (c .counted .ensures)
+    turned-goes (a .v) (orderOf (a .any)) (a .file .now) (a .spans .now) (a .stop) _ (a .first) (l .m) (l .at) (l .tally) (l .last) (l .inv) (c .before .before .before .before .before .before .before .before .before .before .before .before .before .before .before .loop-test .taken) code refl (k .0 .0) kind
+    (n .result) (n .ensures .0) (t .0 .0) (t .0 .1 .0) (t .0 .1 .1 .0) g (c .before .counted .result) (c .before .counted .ensures) (c .begins .result) (c .begins .ensures)
 
 ended-requires-2 : tie.Need-ended-requires-2 Inv-loop μ-loop
 ended-requires-2 c κs = tt
 
 returns-3 : tie.Need-returns-3 Inv-loop μ-loop
 returns-3 c =
-    let a = c .before .before .before .before .before .before .before .before .args in
+    let a = c .before .before .before .before .before .before .before .before .before .args in
     let l = c .before .before .loop in
-    let q = turn-end (a .v) (orderOf (a .any)) (a .file .now) (a .spans .now) (a .stop) _ (a .first) (l .m) (l .at) (l .tally) (l .inv) (omega arith) in
+    let q = turn-end (a .v) (orderOf (a .any)) (a .file .now) (a .spans .now) (a .stop) _ (a .first) (l .m) (l .at) (l .tally) (l .inv .turning) (c .before .loop-test .left) in
     (c .ended2 .ensures .0 ∙ q .0, c .ended2 .ensures .1 ∙ q .1)
 
 pub frames-spec : {M : Type 1} → statement M
@@ -162,9 +196,16 @@ frames-spec =
     sizes-of-requires
     record-size-requires
     add-span
+    outset-requires
     nothing-requires
     loop-holds
     shared-slice-read-code
+    goes-on-requires
+    leapt-requires
+    add-last
+    add-at
+    loop-less
+    loop-again
     kind-of-requires
     enum-known-k
     enum-told
@@ -177,7 +218,8 @@ frames-spec =
     returns-2
     enum-known-t
     counted-requires
-    loop-less
-    loop-again
+    begins-requires
+    loop-less-2
+    loop-again-2
     ended-requires-2
     returns-3)

@@ -1,21 +1,22 @@
 -- `judging::judge` meets its contract.
 -- Assumes nothing.
 use borrow.Author.Needs.{needs}
-use mathlib.Core.Path.{sym, ap, _∙_}
-use Rattle.de.specs.Numbers.{WalkNumbers}
-use Rattle.judging.proofs.Laws.{kind-done, walk-refused}
+use native.Mathlib.Omega.{arith}
+use Rattle.judging.proofs.Laws.{head-refused, headed}
 use Rattle.judging.proofs.judge.Statement.{statement}
 use Rattle.judging.proofs.judge.Tie as tie
 
-judge-walked-requires : tie.Need-judge-walked-requires
-judge-walked-requires c κs =
-    let w = c .before .before .walk in
-    sym (ap (λ (n : WalkNumbers). n .kind) (w .ensures)) ∙ kind-done (w .result) _ _ _ _ (c .enum-told .given .1)
-
 returns : tie.Need-returns
 returns c =
-    let w = c .before .before .before .walk in
-    walk-refused (c .before .before .before .before .before .args .file .now) (w .result) _ _ (w .ensures) (c .before .w .given .1)
+    let h = c .before .before .before .parse-head in
+    let s = c .before .before .before .before .before .before in
+    head-refused (s .args .file .now) _ (h .result) (h .ensures) (c .if1 .taken)
+
+judge-events-requires : tie.Need-judge-events-requires
+judge-events-requires c κs =
+    let h = c .before .before .before .before .parse-head in
+    let s = c .before .before .before .before .before .before .before in
+    headed (s .args .file .now) _ (h .result) (h .ensures) (λ i. c .before .before .before .before .before .before .shared-slice-known .given i .fits) (c .before .if1 .left)
 
 pub judge-spec : {M : Type 1} → statement M
-judge-spec = tie.close (tie.spec (λ c κs. search needs) (λ c. search needs) (λ c. search needs) judge-walked-requires returns (λ c. search needs))
+judge-spec = tie.close (tie.spec (λ c. search needs) (λ c κs. search needs) returns (λ c. search needs) judge-events-requires (λ c. c .judge-events .ensures))

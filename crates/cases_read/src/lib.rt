@@ -1,0 +1,1 @@
+// The worked cases' files and what is read of them: definitions and laws only.

@@ -1,0 +1,4 @@
+pub mod Across
+pub mod Leaves
+pub mod Likeness
+pub mod Teams
