@@ -32,13 +32,9 @@ TESTS := $(PROGRAMS:%=target/c/bin/%) target/c/bin/header_examples target/c/bin/
 
 all: $(SLP_LIB) $(TOOL)
 
-# The crates that it stands on are proved first, side by side: on its own `rt staticlib` proves one after another.
-target/staticlib/libslp.a:
-	rt check slp
-	rt staticlib slp
-
-lib:
-	rt check slp
+# The crates that it stands on are proved first, side by side: on its own `rt staticlib` proves one after another. It proves slp itself.
+lib target/staticlib/libslp.a:
+	RT_JOBS=$$(.ci/jobs) rt check $$(sed -n 's/^slp: *//p' crates.txt)
 	rt staticlib slp
 
 $(TOOL): $(TOOL_OBJECTS) $(SLP_LIB)

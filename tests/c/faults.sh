@@ -6,26 +6,25 @@ set -u
 faults=$(sed -n 's/.*faulty("\([a-z-]*\)").*/\1/p' "$(dirname "$0")/faults.c")
 cd "$1" || exit 2
 shift
-noticed=0
-missed=0
+export PROGRAMS="$*"
 
-# Whether all programs pass: pass FAULT PROGRAM..
-pass() {
-	fault=$1
-	shift
-	for program; do
-		SLP_FAULT=$fault ./$program --light >/dev/null 2>&1 || return 1
+printf '%s\n' "$@" | xargs -P "$(nproc)" -I % env SLP_FAULT=none ./% --light >/dev/null 2>&1 || { echo 'faults: the tests fail without one'; exit 1; }
+
+# Says of each of its faults whether it was noticed. The program that noticed the fault before is tried first: faults of one call stand together.
+tried='
+for fault; do
+	said=missed
+	for program in $PROGRAMS; do
+		SLP_FAULT=$fault ./$program --light >/dev/null 2>&1 && continue
+		said=noticed
+		PROGRAMS="$program $(printf "%s\n" $PROGRAMS | grep -vx "$program" | tr "\n" " ")"
+		break
 	done
-}
-
-pass none "$@" || { echo 'faults: the tests fail without one'; exit 1; }
-for name in $faults; do
-	if pass "$name" "$@"; then
-		echo "faults: $name was not noticed"
-		missed=$((missed + 1))
-	else
-		noticed=$((noticed + 1))
-	fi
-done
+	echo "$said $fault"
+done'
+said=$(printf '%s\n' $faults | xargs -P "$(nproc)" -n 10 sh -c "$tried" faults)
+noticed=$(printf '%s\n' "$said" | grep -c '^noticed ')
+missed=$(($(printf '%s\n' $faults | wc -l) - noticed))
+printf '%s\n' "$said" | sed -n 's/^missed \(.*\)/faults: \1 was not noticed/p'
 echo "faults: $noticed noticed, $missed missed"
-[ $missed -eq 0 ] && [ $noticed -gt 0 ]
+[ $missed -eq 0 ] && [ "$noticed" -gt 0 ]
