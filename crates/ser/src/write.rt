@@ -13,7 +13,7 @@ use super::written::Written;
 use format::refusal;
 use game::Game;
 use players::slots::slots_of;
-use start::block::put_block;
+use start_block::block::put_block;
 
 // The file stands at the output's start, and its length is answered; what follows it in the output stays.
 pub fn write(

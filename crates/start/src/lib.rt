@@ -1,7 +1,4 @@
-// What a game starts with: the length of its start block, what refuses it, and the block's bytes.
-pub mod block;
-pub mod field;
+// What a game starts with: the length of its start block, and what refuses it. The block's bytes are defined here and written by start_block.
 pub mod gate;
 pub mod judge;
 pub mod length;
-pub mod seat;
