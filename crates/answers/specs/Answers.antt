@@ -1,5 +1,10 @@
 -- The answers of the calls as structs of numbers.
 -- Assumes nothing.
+use Prim.Native.Nat.{ℕ}
+use mathlib.Core.Bool.{cond}
+use Rattle.format.specs.Mark.{yes}
+use Rattle.rollback.specs.declared.frame.Rollbacks.{Rollbacks}
+use Rattle.rollback.specs.declared.frame.Rollbacks.the-variants.{ExceptFirst, ExceptLast}
 use Rattle.head.specs.Numbers.{StepNumbers, stepNumbers}
 use Rattle.de.specs.Numbers.{WalkNumbers, walkNumbers}
 use Rattle.head.specs.declared.Step.{Step}
@@ -36,3 +41,7 @@ appendedStruct n = record { refused = n .number; end = n .end }
 
 abbrev pub appendedAs : Appended → SlpAppended
 appendedAs w = appendedStruct (appendedNumbers w)
+
+-- 0 keeps an id's first frame, every other number its last
+abbrev pub keepOf : ℕ → Rollbacks
+keepOf keep = cond (yes keep) ExceptLast ExceptFirst

@@ -7,6 +7,8 @@ use de::Walked;
 use head::Step;
 use ser::written::Written;
 
+pub mod mask;
+
 // What stands at a place: kind 0 is an event, 1 the end of the data, 2 a cut, 3 a refusal.
 #[repr(C)]
 pub struct SlpStep {

@@ -15,8 +15,6 @@ use reading::answer::opened;
 use reading::short::short;
 use reading::tail::gecko_span;
 
-pub mod filling;
-
 // Of a file that holds these parts: 12 where a store is too short.
 fn read_held(
     file: &[u8],

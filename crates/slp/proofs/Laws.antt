@@ -23,9 +23,9 @@ use Rattle.ser.specs.Write as write
 use Rattle.game.specs.declared.Game.{Game}
 use Rattle.ser.specs.declared.written.Written.{Written}
 use Rattle.answers.specs.declared.SlpWritten.{SlpWritten}
-use Rattle.answers.specs.Answers.{writtenStruct, written, appendedStruct, appendedAs}
+use Rattle.answers.specs.Answers.{writtenStruct, written, appendedStruct, appendedAs, keepOf}
 use Rattle.slp.specs.Columns.{storeColumns}
-use Rattle.slp.specs.Outcomes.{keepOf, MaskOutcome, WriteOutcome, AppendOutcome}
+use Rattle.slp.specs.Outcomes.{MaskOutcome, WriteOutcome, AppendOutcome}
 
 pub mask-outcome : {ids mask scratch ma sa : List ℕ} {keep : Rollbacks} {k number : ℕ} {answer : Masked} →
     keep ≡ keepOf k → rollback.RollbackOutcome ids keep mask scratch answer ma sa → number ≡ rollback.maskNumbers answer .number →

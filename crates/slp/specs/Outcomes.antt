@@ -2,13 +2,9 @@
 -- Assumes nothing.
 use Prim.Native.Nat.{ℕ, _+_}
 use mathlib.Core.Path.{_≡_}
-use mathlib.Core.Bool.{cond}
 use mathlib.Core.List.{List}
 use lib.ListN.{length}
-use Rattle.format.specs.Mark.{yes}
 use Rattle.rollback.specs.Mask.{answerOf, maskNumbers, maskAfter, scratchAfter}
-use Rattle.rollback.specs.declared.frame.Rollbacks.{Rollbacks}
-use Rattle.rollback.specs.declared.frame.Rollbacks.the-variants.{ExceptFirst, ExceptLast}
 use Rattle.game.specs.Stores.{Lent, Stores}
 use Rattle.ser.specs.Write.{answered, left, refusal, file}
 use Rattle.append.specs.Run.{runBytes, runRefusal, appended, leftAt}
@@ -16,11 +12,7 @@ use Rattle.game.specs.declared.Game.{Game}
 use Rattle.game.specs.declared.frames.Frames.{Frames}
 use Rattle.answers.specs.declared.SlpAppended.{SlpAppended}
 use Rattle.answers.specs.declared.SlpWritten.{SlpWritten}
-use Rattle.answers.specs.Answers.{written, appendedAs}
-
--- 0 keeps an id's first frame, every other number its last
-abbrev pub keepOf : ℕ → Rollbacks
-keepOf keep = cond (yes keep) ExceptLast ExceptFirst
+use Rattle.answers.specs.Answers.{written, appendedAs, keepOf}
 
 pub record MaskOutcome (ids : List ℕ) (keep : ℕ) (mask scratch : List ℕ) (number : ℕ) (mask-after scratch-after : List ℕ) : Type 0 where
   pub number-is : number ≡ maskNumbers (answerOf ids (length mask) (length scratch)) .number

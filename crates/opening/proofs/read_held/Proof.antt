@@ -6,7 +6,7 @@ use Rattle.game.specs.Stores.{cells, offsets, lent}
 use Rattle.reading.specs.Game.{kept}
 use Rattle.reading.proofs.Answers.{small}
 use Rattle.reading.proofs.Outcomes.{first-room, short-as, held-short, held-opened}
-use Rattle.opening.proofs.Rooms.{long-as}
+use Rattle.filling.proofs.Rooms.{long-as}
 use Rattle.opening.proofs.read_held.Statement.{statement}
 use Rattle.opening.proofs.read_held.Tie as tie
 

@@ -5,8 +5,8 @@ use Rattle.slp.proofs.mask.slp_rollbacks.Tie as tie
 use Rattle.slp.proofs.mask.slp_rollbacks.Reads as reads
 use Rattle.slp.proofs.mask.slp_rollbacks.Lts as lts
 use Rattle.rollback.proofs.rollbacks.Reads as rollbacks-reads
-use Rattle.slp.proofs.mask.number.Reads as number-reads
-use Rattle.slp.proofs.mask.rollbacks_of.Reads as rollbacks-of-reads
+use Rattle.answers.proofs.mask.mask_number.Reads as mask-number-reads
+use Rattle.answers.proofs.mask.rollbacks_of.Reads as rollbacks-of-reads
 
 -- src/mask.rt:33:37
 rollbacks-of-requires : tie.Need-rollbacks-of-requires
@@ -17,8 +17,8 @@ rollbacks-requires : tie.Need-rollbacks-requires
 rollbacks-requires c κs = search needs
 
 -- src/mask.rt:33:5
-number-requires : tie.Need-number-requires
-number-requires c κs = search needs
+mask-number-requires : tie.Need-mask-number-requires
+mask-number-requires c κs = search needs
 
 -- src/mask.rt:29:1
 same-length : tie.Need-same-length
@@ -30,7 +30,7 @@ same-length-2 c = search needs
 
 -- src/mask.rt:29:1
 returns : tie.Need-returns
-returns c = mask-outcome (c .before .before .before .before .before .before .before .before .rollbacks-of .ensures) (c .before .before .before .before .before .rollbacks .ensures) (c .number .ensures)
+returns c = mask-outcome (c .before .before .before .before .before .before .before .before .rollbacks-of .ensures) (c .before .before .before .before .before .rollbacks .ensures) (c .mask-number .ensures)
 
 pub slp-rollbacks-spec : {M : Type 1} → statement M
 slp-rollbacks-spec =
@@ -38,7 +38,7 @@ slp-rollbacks-spec =
     (tie.spec
     rollbacks-of-requires
     rollbacks-requires
-    number-requires
+    mask-number-requires
     same-length
     same-length-2
     returns)

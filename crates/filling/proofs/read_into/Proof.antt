@@ -1,12 +1,12 @@
--- `opening::filling::read_into` meets its contract.
+-- `filling::read_into` meets its contract.
 -- Assumes nothing.
 use borrow.Author.Needs.{needs}
 use Rattle.game.specs.Stores.{cells, offsets, lent}
 use Rattle.reading.specs.Game.{kept}
 use Rattle.reading.proofs.Answers.{small}
-use Rattle.opening.proofs.Rooms.{asked, codes-asked, learnt}
-use Rattle.opening.proofs.filling.read_into.Statement.{statement}
-use Rattle.opening.proofs.filling.read_into.Tie as tie
+use Rattle.filling.proofs.Rooms.{asked, codes-asked, learnt}
+use Rattle.filling.proofs.read_into.Statement.{statement}
+use Rattle.filling.proofs.read_into.Tie as tie
 
 frames-in-requires : tie.Need-frames-in-requires
 frames-in-requires c κs = let s = c .before .before .before .before .before .before .before .before .before .before .before .before .before .before .before .before in small (s .args .file .now) (s .args .first) (s .args .stop) (s .args .p) (s .pre .0)
