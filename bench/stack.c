@@ -100,6 +100,7 @@ static void call_pre_of(void) { kept = 1u + slp_pre_of(cells, SLP_PRE_COLUMNS, g
 static void call_post_of(void) { kept = 1u + slp_post_of(cells, SLP_POST_COLUMNS, game.frames.version, 1).state; }
 static void call_columns(void) { kept = 1u + slp_columns(game.frames.version, SLP_FAMILY_POST); }
 static void call_room(void) { kept = slp_room(slp_plan_of(&game, block.len, codes.len, metadata.len)).bytes; }
+static void call_check(void) { kept = 1 + slp_check(file, file_len).offset; }
 static void call_measure(void) { kept = slp_measure(file, file_len).places.block_at; }
 static void call_read(void) { kept = slp_read_game(file, file_len, &space).places.block_at; }
 static void call_first_place(void) { kept = slp_first_place(file, file_len); }
@@ -131,6 +132,7 @@ static const struct {
 	{ "slp_write_frame", call_write_frame, 4900 },
 	{ "slp_walk", call_walk, 2800 },
 	{ "slp_step_at", call_step_at, 2800 },
+	{ "slp_check", call_check, 2900 },
 	{ "slp_measure", call_measure, 4600 },
 	{ "slp_read", call_read, 9700 },
 	{ "slp_write_map", call_write_map, 1900 },

@@ -67,7 +67,7 @@ enum {
 	/* columns back: the first event is no GameStart of at least 4 bytes; or, judged after 1, the event data is cut, an event is out of the
 	 * per-frame order or has a payload of the wrong size, ports do not ascend, a Pre has no Post or a Post no Pre, a record has another frame's
 	 * id, neighbouring frames before 2.2 have one id, a code block is wrong, a port, follower flag or seat type is out of range, there are over
-	 * two ends or unlike ones, or an initiator is outside -1..3 */
+	 * two ends or unlike ones, or an initiator is outside -1..3; check: the same place in its order, by its own rules */
 	SLP_BAD_EVENTS = 19,
 	/* metadata map: a map more than 8 deep below the body's own */
 	SLP_TOO_DEEP = 20,
@@ -75,7 +75,7 @@ enum {
 	SLP_LONG_TEXT = 21,
 	/* metadata map: a key twice in one map */
 	SLP_REPEATED_KEY = 22,
-	/* metadata map: entries that are no map; a body that the writer cannot give */
+	/* metadata map: entries that are no map; a body that the writer cannot give; check: a tail that is not proper */
 	SLP_BAD_BODY = 23
 };
 
@@ -158,6 +158,26 @@ typedef struct {
  *     else printf("%zu events, %zu stray bytes, %s\n", w.events, w.stray, w.whole ? "whole" : "cut");
  */
 slp_walked slp_walk(const uint8_t *file, size_t file_len);
+
+typedef struct {
+	uint8_t refused;   /* 0 if the file is sound, else the number of what is wrong first */
+	size_t offset;     /* the file offset that a refusal of 14 to 17 names; else 0 */
+} slp_checked;
+
+/* Whether a file is sound, whoever wrote it: all of its event data is there; the payload table is the version's, to the byte, with 3D and 10 listed or,
+ * where there are no code blocks, not; GameStart comes first, then the code blocks, the frames, and at most two ends, which may be unlike. Blocks have
+ * right lengths and flags. In a frame ports come in any order, the same for Pre and Post, each player once, a port's leader right before its follower
+ * where both are there; from frame to frame the order is free. Before 2.2 a frame is a run of Pre and then Post of one id. Behind the event data stands
+ * `7d` alone, or the metadata's key, a body that slp_read_map reads given room for its entries, and `7d 7d`.
+ *
+ * Every file that slp_write gives is sound, given such a body. Refusals, in this order: 14 to 17 over the whole walk; 19 if the first event is no GameStart
+ * of at least 4 bytes; 1; 19 for anything else that is wrong up to the end of the event data; 23 for what stands behind it.
+ *
+ *     slp_checked c = slp_check(file, len);
+ *     if (c.refused) printf("not sound: %u at %zu\n", c.refused, c.offset);
+ *     else printf("sound\n");
+ */
+slp_checked slp_check(const uint8_t *file, size_t file_len);
 
 /* ======== rollback masks ======== */
 

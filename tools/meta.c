@@ -5,9 +5,9 @@
 
 #include "tool.h"
 
-/* What stands before the body, and after it: the braces that close the map and the file. A longer tail than that of the longest body is none. */
+/* What stands before the body, and after it: the braces that close the map and the file. */
 static const uint8_t KEY[] = { 0x55, 8, 'm', 'e', 't', 'a', 'd', 'a', 't', 'a', 0x7b };
-enum { BRACES = 2, LONGEST_TAIL = sizeof KEY + SLP_MAX_METADATA + BRACES };
+enum { BRACES = 2 };
 
 /* An entry takes at least four bytes of a body: a key's two, and two braces. */
 enum { LEAST = 4 };

@@ -4,9 +4,6 @@
 
 #include "tool.h"
 
-/* The longest tail that has metadata: its key, a body and two braces. Of a longer one a byte more is enough to see that it has none. */
-enum { LONGEST_TAIL = 11 + SLP_MAX_METADATA + 2 };
-
 /* Why a replay is not read into columns: 14 to 17 have a place. Of one that is cut, how much of it there is. */
 static void complain_unread(const char *name, const content *c, unsigned number, size_t offset)
 {

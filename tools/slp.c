@@ -1,4 +1,4 @@
-/* slp: walks Slippi replays, lists their events, shows their metadata and frames, writes them again, writes a small one, says how much room to
+/* slp: walks Slippi replays, checks them, lists their events, shows their metadata and frames, writes them again, writes a small one, says how much room to
  * reserve. */
 #include <errno.h>
 #include <stdio.h>
@@ -11,6 +11,8 @@ static const char HELP[] =
 	"\n"
 	"  slp walk FILE..     a line for each replay: EVENTS STRAY whole|cut, or refused NUMBER OFFSET;\n"
 	"                      with several files after 'FILE: '\n"
+	"  slp check FILE..    whether each replay is sound, whoever wrote it: sound, or NUMBER: why, and at which\n"
+	"                      byte where there is one; with several files after 'FILE: ', and how many are\n"
 	"  slp events FILE     how many events of each code a replay has, and their bytes\n"
 	"  slp meta FILE       the metadata of a replay: its map, an entry a line, maps inside it further in\n"
 	"  slp table FILE      the frames of a replay as CSV: a line for each frame and player who is in it\n"
@@ -46,8 +48,8 @@ static const char HELP[] =
 	"that the version has; floats are shown as the shortest number that is the same float. resave says whether\n"
 	"OUT is the same as IN, byte for byte; what stands after the event data and is no metadata is left out.\n"
 	"\n"
-	"Exit status: 0 if all went well and every replay is whole; 1 if a replay or a plan was refused, a replay\n"
-	"cut, or a file could not be read or written; 2 for wrong usage.\n";
+	"Exit status: 0 if all went well and every replay is whole, for check sound; 1 if a replay or a plan was\n"
+	"refused, a replay cut, or a file could not be read or written; 2 for wrong usage.\n";
 
 typedef struct {
 	int progress, help, version;
@@ -145,6 +147,8 @@ static int run(const arguments *a)
 		return print_version();
 	if (strcmp(command, "walk") == 0)
 		return count ? walk_files(files, count, a->progress) : wrong_usage("walk needs a file", "");
+	if (strcmp(command, "check") == 0)
+		return count ? check_files(files, count, a->progress) : wrong_usage("check needs a file", "");
 	if (strcmp(command, "events") == 0)
 		return count == 1 ? show_events(files[0], a->progress) : wrong_usage("events needs one file", "");
 	if (strcmp(command, "meta") == 0)

@@ -39,6 +39,8 @@ typedef struct {
 int load(const char *path, content *c);
 /* The same, and what stands after its event data, up to `more` bytes. */
 int load_more(const char *path, size_t more, content *c);
+/* The longest tail that has metadata: its key, a body and two braces. Of a longer one a byte more is enough to see that it has none. */
+enum { LONGEST_TAIL = 11 + SLP_MAX_METADATA + 2 };
 /* How many bytes files have, as far as that is known before reading. */
 uint64_t total_size(char **paths, int count);
 
@@ -75,6 +77,7 @@ void progress_clear(void);
 /* ---- the commands: each gives the exit status */
 
 int walk_files(char **paths, int count, int progress);
+int check_files(char **paths, int count, int progress);
 int show_events(const char *path, int progress);
 int show_metadata(const char *path);
 int show_table(const char *path, int progress);

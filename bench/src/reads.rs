@@ -20,7 +20,7 @@ pub const SHAPES: &[Shape] = &[
 	shape("1,048,576 frames", 1_048_576),
 ];
 
-pub const WHAT: &[&str] = &["reads: measure", "reads: read", "reads: write of the same game"];
+pub const WHAT: &[&str] = &["reads: check", "reads: measure", "reads: read", "reads: write of the same game"];
 
 /// Cells are made of a shorter game's, again and again: valgrind would take long to make so many.
 const BASE: usize = 1024;
@@ -44,6 +44,7 @@ impl Reads {
 
 	pub fn run(&mut self, what: &str) {
 		match what {
+			"reads: check" => _ = black_box(slp::check(black_box(&self.file))),
 			"reads: measure" => _ = black_box(slp::measure(black_box(&self.file))),
 			"reads: read" => drop(black_box(self.lent.read(black_box(&self.file)).unwrap())),
 			"reads: write of the same game" => drop(black_box(slp::write(&self.case.game, &self.case.stores(), &mut self.file).unwrap())),

@@ -19,6 +19,7 @@ pub const WHAT: &[&str] = &[
 	"write: copy of the bytes",
 	"run of 1,000 frames: libslp",
 	"run of no frames: libslp",
+	"check: libslp",
 	"measure: libslp",
 	"read: libslp",
 	"read: plain C",
@@ -68,6 +69,7 @@ impl Work {
 		let mut fixed = vec![0; file.len()];
 		assert_eq!(slp::write(&case.game, &case.stores(), &mut fixed), Ok(file.len()));
 		assert!(fixed == file, "the files differ");
+		assert_eq!(slp::check(&file), Ok(()));
 		let events = walk(&file);
 		let mask = vec![0; case.ids.len()];
 		let scratch = vec![0; slp::scratch_len(&case.ids)];
@@ -108,7 +110,7 @@ impl Work {
 	}
 
 	pub fn moves_file(&self, what: &str) -> bool {
-		!what.starts_with("mask") && !what.starts_with("measure") && !what.starts_with("run")
+		!what.starts_with("mask") && !what.starts_with("measure") && !what.starts_with("check") && !what.starts_with("run")
 	}
 
 	pub fn run(&mut self, what: &str) {
@@ -130,6 +132,7 @@ impl Work {
 			"run of no frames: libslp" => {
 				_ = black_box(slp::write_frames(&self.case.game.frames, &self.case.stores(), &mut self.fixed, 0, 500..500))
 			}
+			"check: libslp" => _ = black_box(slp::check(black_box(&self.file))),
 			"measure: libslp" => _ = black_box(slp::measure(black_box(&self.file))),
 			"read: libslp" => _ = black_box(self.lent.read(black_box(&self.file))),
 			"read: plain C" => _ = black_box(plain::read(&self.case, black_box(&self.file), &mut self.lent)),

@@ -9,6 +9,7 @@ bin=$1
 "$bin/walk_file" "$bin/game.slp"
 head -c 900 "$bin/game.slp" >"$bin/cut.slp"
 "$bin/walk_file" "$bin/cut.slp"
+"$bin/check_file" "$bin/game.slp" "$bin/cut.slp" || echo 'not all sound'
 "$bin/open_and_save" "$bin/game.slp" "$bin/again.slp"
 cmp "$bin/game.slp" "$bin/again.slp"
 "$bin/open_and_save" "$bin/cut.slp" "$bin/again.slp" || echo 'not saved'

@@ -24,6 +24,7 @@ slp_post_answer real_slp_post_row(slp_frames frames, SLP_STORE_PARAMETERS, size_
 slp_run real_slp_rows(uint32_t *out, size_t out_len, slp_frames frames, SLP_STORE_PARAMETERS, uint8_t family, size_t slot, size_t from, size_t to);
 slp_pre real_slp_pre_of(const uint32_t *cells, size_t cells_len, slp_version version, uint32_t present);
 
+slp_checked real_slp_check(const uint8_t *file, size_t file_len);
 slp_measured real_slp_measure(const uint8_t *file, size_t file_len);
 slp_opened real_slp_read(const uint8_t *file, size_t file_len, SLP_SPACE_PARAMETERS);
 
@@ -113,6 +114,61 @@ slp_step slp_step_at(const uint8_t *file, size_t file_len, size_t place)
 	if (faulty("step-before") && file_len)
 		spoil(file - 1);
 	return s;
+}
+
+/* Where the payload of the k-th event of a code begins, or 0. */
+static size_t payload_of(const uint8_t *file, size_t file_len, uint8_t code, size_t k)
+{
+	slp_step s = { .next = real_slp_first_place(file, file_len) };
+	while ((s = real_slp_step_at(file, file_len, s.next)).kind == SLP_STEP_EVENT)
+		if (s.code == code && k-- == 0)
+			return s.payload;
+	return 0;
+}
+
+/* Whether the first two Posts are those of the first two Pres, turned. */
+static int posts_turned(const uint8_t *file, size_t file_len)
+{
+	size_t pre = payload_of(file, file_len, 0x37, 0), next = payload_of(file, file_len, 0x37, 1), post = payload_of(file, file_len, 0x38, 1);
+	return pre && next && post && memcmp(file + pre, file + post, 6) == 0 && memcmp(file + pre, file + next, 4) == 0;
+}
+
+static int follower_leads(const uint8_t *file, size_t file_len)
+{
+	size_t pre = payload_of(file, file_len, 0x37, 0), next = payload_of(file, file_len, 0x37, 1);
+	return pre && next && file[pre + 4] == file[next + 4] && file[pre + 5] == 1 && file[next + 5] == 0;
+}
+
+slp_checked slp_check(const uint8_t *file, size_t file_len)
+{
+	slp_checked c = real_slp_check(file, file_len), sound = { 0, 0 };
+	if (faulty("check-tail") && c.refused == 23)
+		c = sound;
+	if (faulty("check-tail-first") && c.refused == 19 && file_len && file[file_len - 1] != 0x7d)
+		c.refused = 23;
+	if (faulty("check-table-more") && c.refused == 19 && file[16] == 34)
+		c = sound;
+	if (faulty("check-posts-turned") && c.refused == 19 && posts_turned(file, file_len))
+		c = sound;
+	if (faulty("check-follower-leads") && c.refused == 19 && follower_leads(file, file_len))
+		c = sound;
+	if (faulty("check-ascending") && c.refused == 0 && real_slp_measure(file, file_len).refused == 19)
+		c.refused = 19;
+	if (faulty("check-cut") && c.refused == 19 && !real_slp_walk(file, file_len).whole)
+		c = sound;
+	if (faulty("check-version") && c.refused == 1)
+		c.refused = 19;
+	if (faulty("check-offset"))
+		c.offset = c.refused == 16 ? 0 : c.offset;
+	if (faulty("check-number"))
+		c.refused = c.refused == 17 ? 16 : c.refused;
+	if (faulty("check-deep") && c.refused == 0 && file_len > 40 && file[file_len - 3] == 0x7d)
+		c.refused = 23;
+	if (faulty("check-input") && file_len > 20)
+		spoil(file + 20);
+	if (faulty("check-outside") && file_len)
+		spoil(file + file_len);
+	return c;
 }
 
 uint8_t slp_rollbacks(const uint32_t *ids, size_t ids_len, uint8_t keep, uint8_t *mask, size_t mask_len, uint8_t *scratch, size_t scratch_len)

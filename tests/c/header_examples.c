@@ -23,6 +23,13 @@ static void walk_through(const uint8_t *file, size_t len)
 	else printf("%zu events, %zu stray bytes, %s\n", w.events, w.stray, w.whole ? "whole" : "cut");
 }
 
+static void check_through(const uint8_t *file, size_t len)
+{
+	slp_checked c = slp_check(file, len);
+	if (c.refused) printf("not sound: %u at %zu\n", c.refused, c.offset);
+	else printf("sound\n");
+}
+
 /* ---- masks */
 
 static void mask_frames(void)
@@ -47,6 +54,9 @@ static void write_and_read(void)
 	walk_through(out, w.len);
 	walk_through(out, 349);
 	walk_through(out, 28);
+	check_through(out, w.len);
+	check_through(out, 350);
+	check_through(out, 28);
 }
 
 /* ---- columns back */

@@ -253,6 +253,17 @@ run meta open.slp
 tail nothing.slp ''
 run meta nothing.slp
 
+# ---- check
+guarded check game.slp
+from game.slp check -
+from "$stored" check -
+run check
+guarded check cut.slp
+for f in unfilled tail short table twice unknown overrun signature newer order longer empty missing; do run check $f.slp; done
+run check directory
+run check away.slp flag.slp none.slp nested.slp
+guarded check game.slp twice.slp long.slp other.slp open.slp nothing.slp unknown.slp missing.slp
+
 # ---- progress
 run --progress=never walk game.slp
 run --progress=auto walk game.slp

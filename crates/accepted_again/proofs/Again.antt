@@ -28,9 +28,8 @@ use Rattle.de.specs.Walk.{walkOf}
 use Rattle.de.specs.Numbers.{walkNumbers}
 use Rattle.de.specs.Cut.{eventsRead}
 use Rattle.de.proofs.Only.{refused-by-number}
-use Rattle.grammar.specs.Productions.{Block, Replay}
+use Rattle.grammar.specs.Productions.{Block, Replay, usedIn}
 use Rattle.grammar.specs.WellFormed.{Each}
-use Rattle.grammar.specs.Sound.{usedIn}
 use Rattle.columns.specs.Columns.{framesRead, lentRead}
 use Rattle.outline.specs.Listed.{codesBytes}
 use Rattle.outline.proofs.Back.{not-wrong}

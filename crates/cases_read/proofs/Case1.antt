@@ -22,10 +22,9 @@ use Rattle.start.specs.Block.{gameFields, playerFields, textFields, portFields,
 use Rattle.start.specs.Length.{reached, lengthOf}
 use Rattle.start_read.specs.Start.{seatIn, startIn}
 use Rattle.ending.specs.Tail.{tailOf}
-use Rattle.grammar.specs.Productions.{Replay, eventsOf}
+use Rattle.grammar.specs.Productions.{Replay, eventsOf, usedIn}
 use Rattle.grammar.specs.WellFormed.{Each, ascending, GoodCodes, WellFormed}
 use Rattle.grammar.specs.Readable.{Changing, Alike, seatType, Readable}
-use Rattle.grammar.specs.Sound.{usedIn}
 use Rattle.columns.specs.Columns.{everIn, portColumns, rowsThere, framesRead, cellColumns, slotsCells, offsetsRead, slotsPresence, lentRead}
 use Rattle.outline.specs.Listed.{listedRight, codesBytes}
 use Rattle.outline.specs.End.{noEnd}

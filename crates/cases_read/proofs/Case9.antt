@@ -18,9 +18,8 @@ use Rattle.layout.specs.Payloads.{listed, payloadSize, entriesOf}
 use Rattle.patch.proofs.Patches.{take-replicate}
 use Rattle.codes.specs.Blocks.{blockCount, used}
 use Rattle.codes.proofs.Laws.{right-codes}
-use Rattle.grammar.specs.Productions.{Block}
+use Rattle.grammar.specs.Productions.{Block, usedIn}
 use Rattle.grammar.specs.WellFormed.{GoodCodes}
-use Rattle.grammar.specs.Sound.{usedIn}
 use Rattle.outline.specs.Listed.{listedRight, codesBytes}
 use Rattle.head.specs.Table.{spanOf}
 use Rattle.found.specs.Found.{versionOf, earlyRefusal, Found, tooBig}

@@ -30,10 +30,9 @@ use Rattle.start.specs.Length.{reached, lengthOf}
 use Rattle.start_read.specs.Start.{seatIn, startIn}
 use Rattle.ending.specs.End.{placementOf, placementsOf, initiatorWrong}
 use Rattle.ending.specs.Tail.{tailOf}
-use Rattle.grammar.specs.Productions.{Player, Frame, Block, Replay, eventsOf}
+use Rattle.grammar.specs.Productions.{Player, Frame, Block, Replay, eventsOf, usedIn}
 use Rattle.grammar.specs.WellFormed.{Each, ascending, mayCome, InOrder, GoodPlayer, GoodFrame, GoodCodes, WellFormed}
 use Rattle.grammar.specs.Readable.{Alike, seatType, Readable}
-use Rattle.grammar.specs.Sound.{usedIn}
 use Rattle.columns.specs.Columns.{holds, everIn, playersAt, portColumns, rowsThere, framesRead, cellColumns, slotRow, slotsCells, totals, offsetsRead, bitsFrom, presenceBytes, slotsPresence, lentRead}
 use Rattle.outline.specs.Listed.{listedRight, codesBytes}
 use Rattle.outline.specs.End.{markBy, valueBy, initiatorIn, placedIn, placementsIn, endIn}

@@ -18,9 +18,8 @@ use Rattle.game.specs.Stores.{Stores, stores}
 use Rattle.game.specs.declared.Game.{Game}
 use Rattle.start_read.specs.Start.{startIn}
 use Rattle.ending.specs.Tail.{tailOf}
-use Rattle.grammar.specs.Productions.{Replay, startEvent, eventsOf}
+use Rattle.grammar.specs.Productions.{Replay, startEvent, eventsOf, usedIn}
 use Rattle.grammar.specs.Readable.{Readable}
-use Rattle.grammar.specs.Sound.{usedIn}
 use Rattle.columns.specs.Columns.{framesRead}
 use Rattle.outline.specs.Listed.{listedRight}
 use Rattle.head.specs.Table.{stopOf, allPresent, tableOf, firstPlace, spanOf}
@@ -42,7 +41,7 @@ use Rattle.ser.proofs.EveryCut.{uncut}
 use Rattle.grammar_games.specs.Tree.{replayOf}
 use Rattle.grammar_games.proofs.Same.{same as events-as}
 use Rattle.saved_again.specs.Again.{storesFrom, storesRead}
-use Rattle.saved_again.proofs.Parts as parts
+use Rattle.found.proofs.Places as parts
 
 -- the span of codes in the table that is written
 abbrev pub spanIn : Game → Stores → ℕ

@@ -2,3 +2,4 @@ pub mod Walked
 pub mod Opening
 pub mod Laws
 pub mod Stages
+pub mod Places

@@ -22,10 +22,9 @@ use Rattle.start_read.specs.Start.{seatsFit}
 use Rattle.start_read.proofs.Types.{types-fit}
 use Rattle.head.specs.Table.{stopOf, tableOf, spanOf}
 use Rattle.de.specs.Cut.{eventsRead}
-use Rattle.grammar.specs.Productions.{Block, Frame, Replay, startEvent, endEvent, codesEvents, framesEvents, eventsOf}
+use Rattle.grammar.specs.Productions.{Block, Frame, Replay, startEvent, endEvent, codesEvents, framesEvents, eventsOf, usedIn}
 use Rattle.grammar.specs.WellFormed.{Each, ascending, GoodFrame, GoodCodes, WellFormed}
 use Rattle.grammar.specs.Readable.{Changing, Readable}
-use Rattle.grammar.specs.Sound.{usedIn}
 use Rattle.grammar.specs.Machine.{initial, rest, familyOf}
 use Rattle.grammar.specs.Whole.{codesRest}
 use Rattle.grammar.proofs.Tests.{both}

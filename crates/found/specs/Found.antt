@@ -17,9 +17,8 @@ use Rattle.de.specs.Walk.{walkOf}
 use Rattle.de.specs.Numbers.{walkNumbers}
 use Rattle.de.specs.Cut.{eventsRead}
 use Rattle.frames.specs.Judge.{tooMany}
-use Rattle.grammar.specs.Productions.{Replay, eventsOf}
+use Rattle.grammar.specs.Productions.{Replay, eventsOf, usedIn}
 use Rattle.grammar.specs.Readable.{Readable}
-use Rattle.grammar.specs.Sound.{usedIn}
 use Rattle.columns.specs.Columns.{framesRead}
 use Rattle.outline.specs.Listed.{listedRight, codesBytes}
 

@@ -18,10 +18,9 @@ use Rattle.start.specs.Length.{lengthOf}
 use Rattle.start_read.specs.Start.{seatsFit}
 use Rattle.head.specs.Table.{tableOf, firstPlace, stopOf, spanOf, allPresent}
 use Rattle.de.specs.Cut.{eventsRead}
-use Rattle.grammar.specs.Productions.{Frame, startEvent, framesEvents}
+use Rattle.grammar.specs.Productions.{Frame, startEvent, framesEvents, usedIn}
 use Rattle.grammar.specs.WellFormed.{Each, ascending, GoodFrame}
 use Rattle.grammar.specs.Readable.{Changing}
-use Rattle.grammar.specs.Sound.{usedIn}
 use Rattle.columns.specs.Columns.{framesRead, everIn}
 use Rattle.outline.specs.Listed.{codesBytes}
 use Rattle.frame_scan.specs.declared.tally.Tally.{Tally}

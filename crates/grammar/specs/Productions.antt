@@ -1,6 +1,6 @@
 -- The productions of a replay: a tree of what stands in it, and the events that the tree stands for. No reader is named here.
 -- Assumes nothing.
-use Prim.Native.Nat.{ℕ}
+use Prim.Native.Nat.{ℕ, _+_}
 use mathlib.Core.List.{List, [], _∷_, _++_, map}
 use Rattle.wire.specs.Wire.{be, keep}
 use Rattle.format.specs.Event.{codeOf}
@@ -90,3 +90,8 @@ endEvent bytes = record { code = codeOf GameEnd; payload = bytes }
 -- a replay: GameStart, the blocks of codes, the frames, the ends
 unfoldable pub eventsOf : Version → Replay → List Ev
 eventsOf v r = startEvent (r .block) ∷ (codesEvents (r .codes) ++ (framesEvents v (r .frames) ++ map endEvent (r .ends)))
+
+-- how many bytes of the blocks are codes
+unfoldable pub usedIn : List Block → ℕ
+usedIn [] = 0
+usedIn (b ∷ bs) = b .used + usedIn bs

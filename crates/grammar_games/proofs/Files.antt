@@ -1,4 +1,4 @@
--- Every file that `write` accepts is sound, given a metadata body that is read.
+-- Every file that `write` accepts is sound, given a metadata body that the writer of metadata can give.
 -- Assumes nothing.
 use mathlib.Core.Path.{_≡_, refl, sym, ap, _∙_}
 use mathlib.Core.Bool.{Bool, true, false}
@@ -15,6 +15,7 @@ use Rattle.layout.specs.Columns.{chosen}
 use Rattle.layout.specs.Payloads.{entriesOf, listed, payloadSize}
 use Rattle.codes.specs.Blocks.{blockCount, used}
 use Rattle.ending.specs.End.{endWrong}
+use Rattle.ending.specs.Tail.{tailOf}
 use Rattle.start.proofs.Blocks.{length-start-block}
 use Rattle.game.specs.Stores.{Stores}
 use Rattle.ser.specs.Write.{givenBytes, entries, file, judged, refusal}
@@ -26,7 +27,8 @@ use Rattle.frames.proofs.Accepted.{numbered}
 use Rattle.game.specs.declared.Game.{Game}
 use Rattle.ser.proofs.Sound.{length-fits}
 use Rattle.grammar.specs.WellFormed.{anyhow}
-use Rattle.grammar.specs.Sound.{usedIn, tableFor, SoundFile}
+use Rattle.grammar.specs.Productions.{usedIn}
+use Rattle.grammar.specs.Sound.{tableFor, SoundEvents, Metadata, Sound}
 use Rattle.grammar_games.specs.Tree.{blocksOf, replayOf}
 use Rattle.grammar_games.proofs.Same.{same, blockAt}
 use Rattle.grammar_games.proofs.Good.{Bytes, Taken, good}
@@ -59,28 +61,30 @@ none-given : (given : Bool) (codes : List ℕ) (actual : ℕ) → given ≡ fals
 unfolding blocksOf keep
 none-given given codes actual e = rw e
 
-module _ (Body : List ℕ → Type 0) (g : Game) (s : Stores) (t : Taken anyhow g s) (read : marked (g .«metadata_given») ≡ true → Body (s .metadata)) where
+module _ (g : Game) (s : Stores) (t : Taken anyhow g s) where
   tables : entries g s ≡ tableFor (g .frames .version) (marked (g .«codes_given»)) (replayOf g s)
   unfolding replayOf
   tables =
       ap (λ (n : ℕ). entriesOf (g .frames .version) n (marked (g .«codes_given»)) (g .«actual_size»)) (sym (length-start-block (g .frames .version) (g .start) (s .template)))
       ∙ table-is (g .frames .version) _ (marked (g .«codes_given»)) (s .codes) (g .«actual_size»)
 
-  pub written-sound : SoundFile Body (file g s)
+  events-sound : SoundEvents (file g s)
   unfolding file replayOf
-  written-sound = record {
+  events-sound = record {
     version = g .frames .version;
     listed = marked (g .«codes_given»);
     replay = replayOf g s;
-    given = marked (g .«metadata_given»);
-    body = s .metadata;
+    tail = tailOf (marked (g .«metadata_given»)) (s .metadata);
     accepted = t .passed .frames .version;
     well = good anyhow g s t;
     unlisted = none-given (marked (g .«codes_given»)) (s .codes) (g .«actual_size»);
     fits = rw (← tables, ← same g s) (length-fits (t .passed));
-    read = read;
     file-is = rw (← tables, ← same g s);
   }
+
+  pub written-sound : (marked (g .«metadata_given») ≡ true → Metadata (s .metadata)) → Sound (file g s)
+  unfolding events-sound
+  written-sound m = record { events = events-sound; proper = record { given = marked (g .«metadata_given»); body = s .metadata; metadata = m; tail-is = refl } }
 
 -- ---- a game that `write` does not refuse
 
@@ -101,6 +105,6 @@ taken g s room e ids bytes =
     record { passed = p; end = end-right g s (lowest-first (judged g s) _ e); order = p .frames .ports .distinct; ids = ids; bytes = bytes }
 
 -- every file that `write` gives is sound
-pub sound : (Body : List ℕ → Type 0) (g : Game) (s : Stores) (room : ℕ) → refusal g s room ≡ 0 → ((i : ℕ) → getD (s .lent .cells .ids) i 0 < 2 ^ 32) → Bytes (g .frames .version)
-    → (marked (g .«metadata_given») ≡ true → Body (s .metadata)) → SoundFile Body (file g s)
-sound Body g s room e ids bytes read = written-sound Body g s (taken g s room e ids bytes) read
+pub sound : (g : Game) (s : Stores) (room : ℕ) → refusal g s room ≡ 0 → ((i : ℕ) → getD (s .lent .cells .ids) i 0 < 2 ^ 32) → Bytes (g .frames .version)
+    → (marked (g .«metadata_given») ≡ true → Metadata (s .metadata)) → Sound (file g s)
+sound g s room e ids bytes m = written-sound g s (taken g s room e ids bytes) m

@@ -55,19 +55,27 @@ no-offset (walked.Refused number offset) e = absurd (omega arith)
 pub kind-done : (w : Walked) (events stray place : ℕ) (whole : Bool) → w ≡ walked.Done events stray whole place → walkNumbers w .kind ≡ 0
 kind-done w events stray place whole e = ap (λ x. walkNumbers x .kind) e
 
-pub walk-refused : (f : List ℕ) (w : Walked) (number offset : ℕ) → walkNumbers w ≡ walkNumbers (walkOf f) → w ≡ walked.Refused number offset → Refuses f number offset
+-- a walk that is refused says which number and offset the file is refused with
+pub walk-early : (f : List ℕ) (w : Walked) (number offset : ℕ) → walkNumbers w ≡ walkNumbers (walkOf f) → w ≡ walked.Refused number offset
+    → (earlyRefusal f ≡ 0 → ⊥) × (number ≡ earlyRefusal f) × (offset ≡ offsetOf f)
 unfolding earlyRefusal lowest
-walk-refused f w number offset e q =
+walk-early f w number offset e q =
     let same : walkNumbers (walkOf f) ≡ walkNumbers (walked.Refused number offset) = sym e ∙ ap walkNumbers q in
     let kind : walkNumbers (walkOf f) .kind ≡ 1 = ap (λ (n : WalkNumbers). n .kind) same in
     let is : earlyRefusal f ≡ number = rw kind (ap (λ (n : WalkNumbers). n .number) same) in
     let some = refused-by-number f kind in
-    early (λ z. omega (arith, ap (λ (n : WalkNumbers). n .number) same)) (sym is) (sym (ap (λ (n : WalkNumbers). n .offset) same))
+    (λ z. omega (arith, ap (λ (n : WalkNumbers). n .number) same), sym is, sym (ap (λ (n : WalkNumbers). n .offset) same))
+
+pub walk-refused : (f : List ℕ) (w : Walked) (number offset : ℕ) → walkNumbers w ≡ walkNumbers (walkOf f) → w ≡ walked.Refused number offset → Refuses f number offset
+walk-refused f w number offset e q = let (n, a, b) = walk-early f w number offset e q in early n a b
 
 -- ---- the head
 
+pub head-early : (f spans : List ℕ) (h : Head) → HeadOf h spans f → (h .refusal ≡ 0 → ⊥) → (earlyRefusal f ≡ 0 → ⊥) × (h .refusal ≡ earlyRefusal f) × (h .offset ≡ offsetOf f)
+head-early f spans h o n = walk-early f (walkOf f) (h .refusal) (h .offset) refl (sym (refused-walk f (h .refusal) (h .offset) (o .refusal-is) (o .offset-is) n))
+
 pub head-refused : (f spans : List ℕ) (h : Head) → HeadOf h spans f → (h .refusal ≡ 0 → ⊥) → Refuses f (h .refusal) (h .offset)
-head-refused f spans h o n = walk-refused f (walkOf f) (h .refusal) (h .offset) refl (sym (refused-walk f (h .refusal) (h .offset) (o .refusal-is) (o .offset-is) n))
+head-refused f spans h o n = let (m, a, b) = head-early f spans h o n in early m a b
 
 pub headed : (f spans : List ℕ) (h : Head) → HeadOf h spans f → Bytes f → h .refusal ≡ 0 → Headed f spans (h .first) (h .stop) (h .whole)
 headed f spans h o bytes e =
@@ -143,19 +151,21 @@ module _ (f spans : List ℕ) (first stop : ℕ) (whole : Bool) (h : Headed f sp
       (sym (q ∙ ap (λ (n : ℕ). firstAt f spans n stop) (h .first-is) ∙ ap (λ (n : ℕ). firstAt f spans (firstPlace (tableOf f)) n) (h .stop-is)))
       (opening.first-said f spans (h .accepted) (h .bytes) (h .index) starts-here)
 
-  offset-none : 0 ≡ offsetOf f
+  pub offset-none : 0 ≡ offsetOf f
   offset-none = sym (no-offset (walkOf f) k)
 
   by-events : earlyRefusal f ≡ lowest (refuse 19 (opensWrong (eventsRead f)) ∷ refuse 1 (not (acceptedOf (versionOf f))) ∷ [])
   unfolding earlyRefusal lowest
   by-events = rw k
 
-  pub opens-not : (e : First) → e ≡ firstAt f spans first stop → e ≡ Other → Verdicts f (refusedAs 19)
+  pub opens-early : (e : First) → e ≡ firstAt f spans first stop → e ≡ Other → earlyRefusal f ≡ 19
   unfolding lowest
-  opens-not e q o =
+  opens-early e q o =
       let wrong : opensWrong (eventsRead f) ≡ true = first-said Other (sym o ∙ q) in
-      let is : earlyRefusal f ≡ 19 = by-events ∙ rw wrong in
-      early (λ z. omega arith) (sym is) offset-none
+      by-events ∙ rw wrong
+
+  pub opens-not : (e : First) → e ≡ firstAt f spans first stop → e ≡ Other → Verdicts f (refusedAs 19)
+  opens-not e q o = let is = opens-early e q o in early (λ z. omega arith) (sym is) offset-none
 
   module _ (v : Version) (len : ℕ) (e : First) (q : e ≡ firstAt f spans first stop) (o : e ≡ Opens v len) where
     said : opening.Opened (eventsRead f) v len
@@ -168,11 +178,12 @@ module _ (f spans : List ℕ) (first stop : ℕ) (whole : Bool) (h : Headed f sp
         longer : (n : ℕ) → 4 ≤ n → false || ltb n 4 ≡ false
         longer n l = le-ltb n 4 l
 
-    pub too-new : acceptedOf v ≡ false → Verdicts f (refusedAs 1)
+    pub new-early : acceptedOf v ≡ false → earlyRefusal f ≡ 1
     unfolding lowest
-    too-new a =
-        let is : earlyRefusal f ≡ 1 = by-events ∙ rw (right, ← said .version-is, a) in
-        early (λ z. omega arith) (sym is) offset-none
+    new-early a = by-events ∙ rw (right, ← said .version-is, a)
+
+    pub too-new : acceptedOf v ≡ false → Verdicts f (refusedAs 1)
+    too-new a = let is = new-early a in early (λ z. omega arith) (sym is) offset-none
 
     pub ready : whole ≡ true → Ready f spans v first stop len
     unfolding Each

@@ -199,13 +199,13 @@ module _ (f spans : List ℕ) (stop end : ℕ) where
 
 module _ (f spans : List ℕ) (first stop : ℕ) (h : Headed f spans first stop true) where
   -- from a place on
-  abbrev Comes : ℕ → Type 0
+  abbrev pub Comes : ℕ → Type 0
   Comes p = first ≤ p → (n : ℕ) → stop ≤ p + n → run n f p .last ≡ Ends
 
   span-is : (p : ℕ) → spanAt spans f p ≡ spanOf (getD f p 0) (tableOf f)
   span-is p = h .index (getD f p 0) (h .bytes p)
 
-  comes-back : (p : ℕ) → 0 < spanAt spans f p → p + spanAt spans f p ≤ stop → Comes (p + spanAt spans f p) → Comes p
+  pub comes-back : (p : ℕ) → 0 < spanAt spans f p → p + spanAt spans f p ≤ stop → Comes (p + spanAt spans f p) → Comes p
   unfolding run
   comes-back p s l next a zero le = absurd (omega arith)
   comes-back p s l next a (suc n) le =
@@ -221,19 +221,24 @@ module _ (f spans : List ℕ) (first stop : ℕ) (h : Headed f spans first stop 
       (at-end (stopOf f) (allPresent f) stop (getD f stop 0) (spanOf (getD f stop 0) (tableOf f)) (firstPlace (tableOf f)) (omega (arith, h .starts, h .first-is)) (h .stop-is)
       ∙ rw (← h .whole-is))
 
-  comes-last : Comes stop
+  pub comes-last : Comes stop
   comes-last a n le = ap (λ r. r .last) (run-stop n f stop Ends (λ z. omega arith) step-ends)
 
   run-done : runOf f .last ≡ Ends → WalkDone f
   unfolding walkOf
   run-done e = ap (λ (s : Step). walkNumbers (answerAt (stopOf f) (length (runOf f .seen)) (runOf f .place) s) .kind) e
 
-  -- where every pass succeeds
-  pub walk-done : (v : Version) (len : ℕ) → firstAt f spans first stop ≡ Opens v len → (place blocks actual : ℕ) → codesAt v f spans (first + 1 + len) stop ≡ codes.Ended place blocks actual
-      → (o : Order) (n : ℕ) (s : State) (last : ℕ) → scan v o f spans stop n place s ≡ some last → (count : ℕ) → endsAt v f spans last stop ≡ ended.Good count → WalkDone f
-  walk-done v len opens place blocks actual coded o n s last ran count good =
-      let at-last = ends-back f spans stop Comes comes-back v last count good comes-last in
+  -- where every pass before the ends succeeds, and a run from there comes to the data's end
+  pub walk-from : (v : Version) (len : ℕ) → firstAt f spans first stop ≡ Opens v len → (place blocks actual : ℕ) → codesAt v f spans (first + 1 + len) stop ≡ codes.Ended place blocks actual
+      → (o : Order) (n : ℕ) (s : State) (last : ℕ) → scan v o f spans stop n place s ≡ some last → Comes last → WalkDone f
+  walk-from v len opens place blocks actual coded o n s last ran at-last =
       let at-place = scan-back f spans stop Comes comes-back v o n place s last ran at-last in
       let at-codes = codes-back f spans stop Comes comes-back v (first + 1 + len) place blocks actual coded at-place in
       let at-first = first-back f spans stop Comes comes-back v first len opens at-codes in
       run-done (subst (λ (p : ℕ). run (length f) f p .last ≡ Ends) (h .first-is) (at-first (omega arith) (length f) (omega (arith, h .within))))
+
+  -- and where the ends succeed too
+  pub walk-done : (v : Version) (len : ℕ) → firstAt f spans first stop ≡ Opens v len → (place blocks actual : ℕ) → codesAt v f spans (first + 1 + len) stop ≡ codes.Ended place blocks actual
+      → (o : Order) (n : ℕ) (s : State) (last : ℕ) → scan v o f spans stop n place s ≡ some last → (count : ℕ) → endsAt v f spans last stop ≡ ended.Good count → WalkDone f
+  walk-done v len opens place blocks actual coded o n s last ran count good =
+      walk-from v len opens place blocks actual coded o n s last ran (ends-back f spans stop Comes comes-back v last count good comes-last)

@@ -21,9 +21,8 @@ use Rattle.format.specs.declared.version.Version.{Version}
 use Rattle.format.proofs.Versions.{no-way}
 use Rattle.layout.specs.Payloads.{endSize}
 use Rattle.ending.specs.End.{hasInitiator, initiatorWrong}
-use Rattle.grammar.specs.Productions.{Block, blockEvent, codesEvents, endEvent}
+use Rattle.grammar.specs.Productions.{Block, blockEvent, codesEvents, endEvent, usedIn}
 use Rattle.grammar.specs.WellFormed.{Each, GoodCodes}
-use Rattle.grammar.specs.Sound.{usedIn}
 use Rattle.grammar.specs.Readable.{Alike}
 use Rattle.grammar.specs.Whole.{isBlock, usedBy, flagIn, isLast, isFull, blocksRest, codesRest, isEnd, areEnds}
 use Rattle.grammar.proofs.Tests.{both}

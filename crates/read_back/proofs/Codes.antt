@@ -17,9 +17,8 @@ use Rattle.format.specs.declared.version.Version.{Version}
 use Rattle.format.proofs.Tests.{same}
 use Rattle.codes.specs.Blocks.{blockCount, used, codesWrong}
 use Rattle.codes.proofs.Laws.{right-codes}
-use Rattle.grammar.specs.Productions.{Block}
+use Rattle.grammar.specs.Productions.{Block, usedIn}
 use Rattle.grammar.specs.WellFormed.{GoodCodes}
-use Rattle.grammar.specs.Sound.{usedIn}
 use Rattle.grammar_games.specs.Tree.{blocksOf}
 use Rattle.grammar_games.proofs.Same.{blockAt}
 use Rattle.read_back.specs.Codes.{joined}

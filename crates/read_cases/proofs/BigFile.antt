@@ -16,10 +16,9 @@ use Rattle.format.specs.declared.version.Version.{Version}
 use Rattle.layout.specs.Columns.{hasFamily, columnsOf, chosen, sum}
 use Rattle.start.specs.Length.{reached, lengthOf}
 use Rattle.frames.specs.Judge.{tooMany}
-use Rattle.grammar.specs.Productions.{Frame, Replay, startEvent, codesEvents, frameEvents, framesEvents, eventsOf}
+use Rattle.grammar.specs.Productions.{Frame, Replay, startEvent, codesEvents, frameEvents, framesEvents, eventsOf, usedIn}
 use Rattle.grammar.specs.WellFormed.{Each, ascending, InOrder, GoodFrame, GoodCodes, WellFormed}
 use Rattle.grammar.specs.Readable.{Alike, seatType, Readable}
-use Rattle.grammar.specs.Sound.{usedIn}
 use Rattle.columns.specs.Columns.{framesRead}
 use Rattle.outline.specs.Listed.{listedRight}
 use Rattle.head.specs.Table.{allPresent}

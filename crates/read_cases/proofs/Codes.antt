@@ -17,10 +17,9 @@ use Rattle.head.specs.Table.{startsWith, stopOf, allPresent, entriesIn, tableOf
 use Rattle.head.specs.Step.{eventIn, stepIn, stepOf}
 use Rattle.de.specs.Walk.{run, walkOf}
 use Rattle.de.specs.Cut.{eventsRead}
-use Rattle.grammar.specs.Productions.{Block, Replay, startEvent, blockEvent, codesEvents, framesEvents, eventsOf}
+use Rattle.grammar.specs.Productions.{Block, Replay, startEvent, blockEvent, codesEvents, framesEvents, eventsOf, usedIn}
 use Rattle.grammar.specs.WellFormed.{Each, ascending, GoodCodes, WellFormed}
 use Rattle.grammar.specs.Readable.{Changing, Alike, seatType, Readable}
-use Rattle.grammar.specs.Sound.{usedIn}
 use Rattle.grammar.specs.Whole.{saysVersion, isStart, isBlock, isLast, isFull, blocksRest, codesRest, onSome, isReplay}
 use Rattle.outline.specs.Listed.{listedRight, codesBytes}
 use Rattle.found.specs.Found.{opensWrong, versionSaid, earlyRefusal, Found}

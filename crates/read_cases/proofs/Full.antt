@@ -20,10 +20,9 @@ use Rattle.game.specs.Stores.{lent, cells, offsets}
 use Rattle.frames.specs.Judge.{tooMany}
 use Rattle.start.specs.Length.{reached, lengthOf}
 use Rattle.ending.specs.End.{initiatorWrong}
-use Rattle.grammar.specs.Productions.{Player, Frame, Replay, codesEvents, frameEvents, framesEvents, eventsOf}
+use Rattle.grammar.specs.Productions.{Player, Frame, Replay, codesEvents, frameEvents, framesEvents, eventsOf, usedIn}
 use Rattle.grammar.specs.WellFormed.{Each, ascending, before, mayCome, InOrder, GoodPlayer, GoodFrame, GoodCodes, WellFormed}
 use Rattle.grammar.specs.Readable.{Alike, seatType, Readable}
-use Rattle.grammar.specs.Sound.{usedIn}
 use Rattle.columns.specs.Columns.{holds, everIn, playersAt, portColumns, rowsThere, framesRead, cellColumns, slotRow, slotsCells, totals, offsetsRead, bitsFrom, presenceBytes, slotsPresence, lentRead}
 use Rattle.outline.specs.Listed.{listedRight, codesBytes}
 use Rattle.outline.specs.End.{markBy, valueBy, initiatorIn, placedIn, placementsIn, endIn}

@@ -20,10 +20,9 @@ use Rattle.frames.specs.Judge.{tooMany}
 use Rattle.start.specs.Length.{reached, lengthOf}
 use Rattle.start_read.specs.Start.{seatIn, startIn}
 use Rattle.ending.specs.Tail.{metadataOf, tailOf}
-use Rattle.grammar.specs.Productions.{Player, Frame, Replay, startEvent, preEvent, postEvent, endEvent, codesEvents, frameEvents, framesEvents, eventsOf}
+use Rattle.grammar.specs.Productions.{Player, Frame, Replay, startEvent, preEvent, postEvent, endEvent, codesEvents, frameEvents, framesEvents, eventsOf, usedIn}
 use Rattle.grammar.specs.WellFormed.{Each, ascending, mayCome, InOrder, GoodPlayer, GoodFrame, GoodCodes, WellFormed}
 use Rattle.grammar.specs.Readable.{Changing, Alike, seatType, Readable}
-use Rattle.grammar.specs.Sound.{usedIn}
 use Rattle.columns.specs.Columns.{holds, everIn, playersAt, portColumns, rowsThere, framesRead, cellColumns, slotRow, slotsCells, offsetsRead, bitsFrom, presenceBytes, slotsPresence, lentRead}
 use Rattle.outline.specs.Listed.{listedRight, codesBytes}
 use Rattle.outline.specs.End.{initiatorIn, placedIn, placementsIn, endIn, fourZeros}

@@ -10,8 +10,7 @@ use Rattle.format.specs.Refusal.{lowest}
 use Rattle.format.specs.File.{entriesBytes, tableBytes, eventsBytes, fileOf}
 use Rattle.format.specs.Version.{version, above, gteOf}
 use Rattle.ending.specs.Tail.{metadataOf, tailOf}
-use Rattle.grammar.specs.Productions.{startEvent, codesEvents, framesEvents, eventsOf}
-use Rattle.grammar.specs.Sound.{usedIn}
+use Rattle.grammar.specs.Productions.{startEvent, codesEvents, framesEvents, eventsOf, usedIn}
 use Rattle.outline.specs.Listed.{listedRight}
 use Rattle.head.specs.Table.{startsWith, stopOf, allPresent, entriesIn, tableOf, spanOf, codeTwice, tableMissing, unsigned, untabled, headRefusal}
 use Rattle.head.specs.Step.{eventIn, stepIn, stepOf}

@@ -12,10 +12,9 @@ use Rattle.format.specs.declared.version.Version.{Version}
 use Rattle.format.proofs.Versions.{no-way}
 use Rattle.de.specs.Cut.{eventsRead}
 use Rattle.head.specs.Table.{allPresent}
-use Rattle.grammar.specs.Productions.{Replay, eventsOf}
+use Rattle.grammar.specs.Productions.{Replay, eventsOf, usedIn}
 use Rattle.grammar.specs.WellFormed.{Each, ascending, WellFormed}
 use Rattle.grammar.specs.Readable.{Readable}
-use Rattle.grammar.specs.Sound.{usedIn}
 use Rattle.grammar.specs.Whole.{isReplay}
 use Rattle.grammar.proofs.Tests.{both}
 use Rattle.grammar.proofs.Exactly.{Byte}

@@ -20,9 +20,8 @@ use Rattle.game.specs.declared.end.End.{End}
 use Rattle.game.specs.declared.frames.Counts.{Counts}
 use Rattle.game.specs.declared.frames.Frames.{Frames}
 use Rattle.game.specs.declared.start.Start.{Start}
-use Rattle.grammar.specs.Productions.{Block, Frame, Replay}
+use Rattle.grammar.specs.Productions.{Block, Frame, Replay, usedIn}
 use Rattle.grammar.specs.WellFormed.{GoodCodes}
-use Rattle.grammar.specs.Sound.{usedIn}
 use Rattle.columns.specs.Columns.{everIn, framesRead}
 use Rattle.frame_scan.specs.Counts.{isMarked}
 use Rattle.outline.specs.End.{endIn, noEnd}

@@ -3,3 +3,4 @@ pub mod Tails
 pub mod Answers
 pub mod Only
 pub mod Outcomes
+pub mod Written

@@ -16,8 +16,7 @@ use Rattle.game.specs.declared.frames.Frames.{Frames}
 use Rattle.game.specs.declared.start.Start.{Start}
 use Rattle.ending.specs.Tail.{metadataKey}
 use Rattle.head.specs.Table.{stopOf, tableOf, firstPlace, startsWith}
-use Rattle.grammar.specs.Productions.{Replay}
-use Rattle.grammar.specs.Sound.{usedIn}
+use Rattle.grammar.specs.Productions.{Replay, usedIn}
 use Rattle.columns.specs.Columns.{framesRead, lentRead}
 use Rattle.start_read.specs.Start.{startIn}
 use Rattle.outline.specs.End.{endIn, noEnd}

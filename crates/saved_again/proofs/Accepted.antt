@@ -23,9 +23,8 @@ use Rattle.codes.specs.Blocks.{codesWrong}
 use Rattle.ending.specs.End.{hasInitiator, initiatorWrong, endWrong}
 use Rattle.ser.specs.Write.{givenBytes, file, judged, refusal}
 use Rattle.ser.proofs.Outcomes.{numbered-eleven}
-use Rattle.grammar.specs.Productions.{Replay}
+use Rattle.grammar.specs.Productions.{Replay, usedIn}
 use Rattle.grammar.specs.WellFormed.{Each}
-use Rattle.grammar.specs.Sound.{usedIn}
 use Rattle.columns.specs.Columns.{framesRead, lentRead}
 use Rattle.grammar_games.specs.Tree.{replayOf}
 use Rattle.read_back.proofs.Codes.{codes-right}

@@ -27,8 +27,7 @@ use Rattle.ending.proofs.Lengths.{length-end}
 use Rattle.head.specs.Table.{stopOf}
 use Rattle.ser.specs.Write.{entries, startEvent, events, file}
 use Rattle.ser.proofs.Sound.{fresh, length-fits}
-use Rattle.grammar.specs.Productions.{Replay, eventsOf}
-use Rattle.grammar.specs.Sound.{usedIn}
+use Rattle.grammar.specs.Productions.{Replay, eventsOf, usedIn}
 use Rattle.columns.specs.Columns.{framesRead, lentRead}
 use Rattle.grammar_games.specs.Tree.{framesOf, blocksOf, endBytes, endsOf, replayOf}
 use Rattle.grammar_games.proofs.Same.{same}
@@ -40,8 +39,8 @@ use Rattle.outline.proofs.Back.{written-back}
 use Rattle.reading.specs.Game.{tailKind, hasMetadata, placesIn, endRead, isDouble, codesMark, gameRead}
 use Rattle.saved_again.specs.Admitted.{Admitted}
 use Rattle.saved_again.specs.Again.{storesRead}
-use Rattle.saved_again.proofs.Parts as parts
-use Rattle.saved_again.proofs.Tails.{tail-kind, body-found}
+use Rattle.found.proofs.Places as parts
+use Rattle.reading.proofs.Written.{tail-kind, body-found}
 use Rattle.saved_again.proofs.Listed.{mark-is}
 use Rattle.saved_again.proofs.Found as found
 

@@ -34,10 +34,9 @@ use Rattle.ser.specs.Write.{entries, events, file}
 use Rattle.ser.proofs.Outcomes.{Passed}
 use Rattle.ser.proofs.Sound.{fresh, length-fits}
 use Rattle.ser.proofs.EveryCut.{uncut}
-use Rattle.grammar.specs.Productions.{Replay, Block, eventsOf}
+use Rattle.grammar.specs.Productions.{Replay, Block, eventsOf, usedIn}
 use Rattle.grammar.specs.WellFormed.{ascending, WellFormed}
 use Rattle.grammar.specs.Readable.{Readable}
-use Rattle.grammar.specs.Sound.{usedIn}
 use Rattle.grammar.proofs.Unique.{unique}
 use Rattle.grammar_games.specs.Tree.{shows, blocksOf, replayOf}
 use Rattle.grammar_games.proofs.Same.{same}
@@ -49,7 +48,7 @@ use Rattle.read_back.proofs.Returned.{Given, given-of, all-shown, returned-judg
 use Rattle.outline.specs.Listed.{listedRight, codesBytes}
 use Rattle.found.specs.Found.{opensWrong, versionSaid, versionOf, earlyRefusal, geckoSpan, Found, tooBig}
 use Rattle.saved_again.specs.Admitted.{Admitted}
-use Rattle.saved_again.proofs.Parts as parts
+use Rattle.found.proofs.Places as parts
 use Rattle.saved_again.proofs.Listed.{span-is, listed-right}
 
 pub joined-is : (bs : List Block) → codesBytes bs ≡ joined bs

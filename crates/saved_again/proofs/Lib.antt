@@ -1,5 +1,3 @@
-pub mod Parts
-pub mod Tails
 pub mod Listed
 pub mod Found
 pub mod Again

@@ -66,6 +66,7 @@ fn check_file(case: &Case, game: &Game, counts: &mut Counts) -> Option<String> {
 	}
 	check_short(case, theirs.len() - 1)
 		.or_else(|| check_walk(&theirs))
+		.or_else(|| check_sound(case, &theirs))
 		.or_else(|| check_room(case, theirs.len()))
 		.or_else(|| check_runs(case, &theirs, counts.games))
 		.or_else(|| check_cleared(case, &theirs))
@@ -137,6 +138,14 @@ fn check_walk(file: &[u8]) -> Option<String> {
 		Ok(walked) if walked.whole && walked.stray == 0 => None,
 		other => Some(format!("our reader on the Rust's file: {other:?}")),
 	}
+}
+
+/// The Rust's file is sound; where its metadata is no map's body, that is what is wrong with it.
+fn check_sound(case: &Case, file: &[u8]) -> Option<String> {
+	let read = case.game.metadata_given == 0 || slp::read_map(case.stores().metadata).is_ok();
+	let should = if read { Ok(()) } else { Err(slp::Refused { number: 23, offset: 0 }) };
+	let is = slp::check(file);
+	(is != should).then(|| format!("our check of the Rust's file: {is:?} and not {should:?}"))
 }
 
 fn check_masks(case: &Case, game: &Game, counts: &mut Counts) -> Option<String> {

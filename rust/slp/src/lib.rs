@@ -42,9 +42,11 @@ mod room;
 pub mod rows;
 mod write;
 
+mod check;
 mod read;
 
 pub use append::{write_frame, write_frames};
+pub use check::check;
 pub use columns::Family;
 pub use game::*;
 pub use lengths::{Lengths, Places, Tail};

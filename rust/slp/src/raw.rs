@@ -30,6 +30,12 @@ pub struct Walked {
 }
 
 #[repr(C)]
+pub struct Checked {
+	pub refused: u8,
+	pub offset: usize,
+}
+
+#[repr(C)]
 pub struct Written {
 	pub refused: u8,
 	pub len: usize,
@@ -106,6 +112,8 @@ extern "C" {
 	pub fn slp_step_at(file: *const u8, file_len: usize, place: usize) -> Step;
 
 	pub fn slp_walk(file: *const u8, file_len: usize) -> Walked;
+
+	pub fn slp_check(file: *const u8, file_len: usize) -> Checked;
 
 	pub fn slp_measure(file: *const u8, file_len: usize) -> Measured;
 

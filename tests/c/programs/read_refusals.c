@@ -19,25 +19,9 @@ static pieces p;
 
 /* ---- the files that are changed */
 
-/* A game of a version: three frames of port 0 with a follower and of port 2, two rows of each family a frame where the version has it, two code blocks,
- * metadata, two ends. */
 static void whole_of(slp_version v)
 {
-	plan q = { .version = v, .frames = 3, .items = 6, .fods = 6, .whispys = 6, .stadiums = 6, .ports = 2, .followers = 1, .seats = 2, .codes = 1,
-	           .actual_size = 600, .metadata = 1, .metadata_len = 5, .end = 1, .double_end = 1 };
-	made m = make_returning(q);
-	m.in.game.frames.ports[0].port = 0;
-	m.in.game.frames.ports[1].port = 2;
-	for (size_t i = 0; i < 3; i++)
-		m.cells[0][i] = (uint32_t)i;
-	for (size_t k = 9; k < CELL_STORES; k++)
-		for (size_t i = 0; i < cell_store(&m.in.stores, k)->len; i++)
-			m.cells[k][i] = (uint32_t)(2 * i);
-	m.in.game.end.initiator = 1;
-	model_file f = model_write(&m.in);
-	take_apart(&p, f.bytes, f.len);
-	model_free(&f);
-	unmake(&m);
+	take_whole(&p, v);
 }
 
 static unsigned answer(void)

@@ -110,6 +110,27 @@ void check_room(const input *in, size_t len)
 	CHECK(len <= r.bytes);
 }
 
+slp_checked guarded_check(const uint8_t *file, size_t len)
+{
+	loan l = lend(file, len, 1);
+	slp_checked c = slp_check(l.data, len);
+	CHECK(kept(&l, 0));
+	CHECK(c.offset == 0 || (c.refused >= 15 && c.refused <= 17));
+	give_back(&l);
+	return c;
+}
+
+void check_sound(const input *in, const uint8_t *file, size_t len)
+{
+	size_t most = in->metadata.len / 4 + 1;
+	slp_entry *entries = take(most * sizeof *entries);
+	int body = !in->game.metadata_given || slp_read_map(in->metadata.p, in->metadata.len, entries, SLP_CELLS(most)).refused == 0;
+	free(entries);
+	slp_checked c = guarded_check(file, len);
+	CHECK_EQ(c.refused, body ? 0 : 23);
+	CHECK_EQ(c.offset, 0);
+}
+
 slp_written guarded_write(const input *in, uint8_t *out, size_t out_len)
 {
 	input lent = *in;
@@ -124,6 +145,8 @@ slp_written guarded_write(const input *in, uint8_t *out, size_t out_len)
 	if (!w.refused)
 		check_room(in, w.len);
 	CHECK(kept(&o, w.len));
+	if (!w.refused)
+		check_sound(in, o.data, w.len);
 	if (out_len)
 		memcpy(out, o.base + o.front, out_len);
 	give_back(&o);

@@ -37,6 +37,8 @@ void take_back(loan loans[LOANS]);
 
 /* The library's room for a game's own counts is enough for its file of `len` bytes. */
 void check_room(const input *in, size_t len);
+/* The file of a game is sound; where its metadata is no map's body, that is what is wrong with it. */
+void check_sound(const input *in, const uint8_t *file, size_t len);
 slp_written guarded_write(const input *in, uint8_t *out, size_t out_len);
 /* The run of frames from a up to b; with b at ONE_FRAME, frame a by the call for one frame. */
 #define ONE_FRAME (SIZE_MAX - 1)
@@ -46,6 +48,7 @@ uint8_t guarded_rollbacks(const uint32_t *ids, size_t ids_len, uint8_t keep, uin
 /* Over lent copies of the stores alone: `family` is SLP_FAMILY_.. or any number. */
 slp_run guarded_rows(const input *in, uint32_t *out, size_t out_len, uint8_t family, size_t slot, size_t from, size_t to);
 slp_walked guarded_walk(const uint8_t *file, size_t len);
+slp_checked guarded_check(const uint8_t *file, size_t len);
 slp_step guarded_step(const uint8_t *file, size_t len, size_t place);
 size_t guarded_first_place(const uint8_t *file, size_t len);
 

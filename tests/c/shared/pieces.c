@@ -3,6 +3,7 @@
 #include <string.h>
 
 #include "check.h"
+#include "made.h"
 
 size_t *listed(pieces *p, uint8_t code)
 {
@@ -39,6 +40,26 @@ void take_apart(pieces *p, const uint8_t *file, size_t len)
 	}
 	p->tail_len = len - first;
 	memcpy(p->tail, file + first, p->tail_len);
+}
+
+void take_whole(pieces *p, slp_version v)
+{
+	plan q = { .version = v, .frames = 3, .items = 6, .fods = 6, .whispys = 6, .stadiums = 6, .ports = 2, .followers = 1, .seats = 2, .codes = 1,
+	           .actual_size = 600, .metadata = 1, .metadata_len = 5, .end = 1, .double_end = 1 };
+	made m = make_returning(q);
+	m.in.game.frames.ports[0].port = 0;
+	m.in.game.frames.ports[1].port = 2;
+	for (size_t i = 0; i < 3; i++)
+		m.cells[0][i] = (uint32_t)i;
+	for (size_t k = 9; k < CELL_STORES; k++)
+		for (size_t i = 0; i < cell_store(&m.in.stores, k)->len; i++)
+			m.cells[k][i] = (uint32_t)(2 * i);
+	m.in.game.end.initiator = 1;
+	static uint8_t file[1 << 15];
+	slp_written w = slp_write_game(file, sizeof file, &m.in.game, &m.in.stores, m.in.block, m.in.codes, m.in.metadata);
+	CHECK_EQ(w.refused, 0);
+	take_apart(p, file, w.len);
+	unmake(&m);
 }
 
 static uint8_t *put_number(uint8_t *to, size_t number, size_t width)

@@ -23,6 +23,9 @@ typedef struct {
 
 /* The pieces of a small replay that the reader takes. */
 void take_apart(pieces *p, const uint8_t *file, size_t len);
+/* Those of a game of a version that the reader takes: three frames of port 0 with a follower and of port 2, two rows of each family a frame where the
+ * version has it, two code blocks, metadata, two ends. */
+void take_whole(pieces *p, slp_version v);
 /* Its bytes, in memory to be freed. The length is that of the event data. */
 uint8_t *put_together(const pieces *p, size_t *len);
 

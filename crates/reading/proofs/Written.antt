@@ -1,4 +1,4 @@
--- What is found in the tail of a written file.
+-- What is found in a tail as it is written.
 -- Assumes nothing.
 use Prim.Native.Nat.{ℕ, _+_, _-_, _≤_}
 use mathlib.Core.Path.{_≡_, refl, sym, ap, _∙_}

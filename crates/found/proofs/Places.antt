@@ -1,4 +1,4 @@
--- Where the parts of a written file stand: its table, the end of its event data, its first payload, and its tail.
+-- Where the parts of a file stand that has a table and events: its table, the end of its event data, its first payload, and its tail.
 -- Assumes nothing.
 use Prim.Native.Nat.{ℕ, _+_, _*_, _^_, _<_}
 use mathlib.Core.Path.{_≡_, refl, sym, ap, _∙_}
