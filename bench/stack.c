@@ -83,6 +83,7 @@ static volatile size_t kept;
 
 static void nothing(void) {}
 static void call_write(void) { kept = slp_write_game(out, sizeof out, &game, &stores, block, codes, metadata).len; }
+static void call_write_final(void) { kept = slp_write_final_game(out, sizeof out, scratch, sizeof scratch, &game, &stores, block, codes, metadata).len; }
 static void call_walk(void) { kept = slp_walk(file, file_len).events; }
 static void call_step_at(void) { kept = slp_step_at(file, file_len, slp_first_place(file, file_len)).next; }
 static void call_rollbacks(void) { kept = 1u - slp_rollbacks(ids, game.frames.counts.frames, SLP_EXCEPT_LAST, mask, sizeof mask, scratch, sizeof scratch); }
@@ -128,6 +129,7 @@ static const struct {
 	size_t most;
 } CALLS[] = {
 	{ "slp_write", call_write, 8600 },
+	{ "slp_write_final", call_write_final, 12700 },
 	{ "slp_write_frames", call_write_frames, 4900 },
 	{ "slp_write_frame", call_write_frame, 4900 },
 	{ "slp_walk", call_walk, 2800 },

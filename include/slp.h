@@ -50,7 +50,7 @@ enum {
 	SLP_BAD_END = 11,
 	/* output, mask, scratch or a store to be filled too short; run of frames: also a place beyond the output */
 	SLP_SHORT_OUTPUT = 12,
-	/* mask: an id below -123 or above 1,048,452; row: an index not below frames or, for a family's own row, its rows; or a slot that is
+	/* mask, final frames: an id below -123 or above 1,048,452; row: an index not below frames or, for a family's own row, its rows; or a slot that is
 	 * not there; run of frames: a range that is reversed or ends beyond the frames; rows of a run: no such family or slot, or a range that is reversed
 	 * or goes past the rows */
 	SLP_OUT_OF_RANGE = 13,
@@ -499,7 +499,7 @@ typedef struct {
 /* ======== writing ======== */
 
 typedef struct {
-	uint8_t refused;   /* 0, or 1 to 12 */
+	uint8_t refused;   /* 0, or 1 to 12; final frames: also 13 */
 	size_t len;        /* the file's length; 0 on a refusal */
 } slp_written;
 
@@ -530,6 +530,31 @@ static inline slp_written slp_write_game(uint8_t *out, size_t out_len, const slp
 {
 	return slp_write(out, out_len, *game, SLP_STORES(s), template_block.p, template_block.len, codes.p, codes.len, metadata.p,
 	                 metadata.len);
+}
+
+/* ======== final frames only ======== */
+
+/* The replay of the frames that stand at the end of all rollbacks: of each id the last row, in the order of the rows, with its items and stage rows. It
+ * is the file that slp_write gives for these rows by themselves, at the start of `out`; bytes past it stay. `scratch` needs a byte a frame, and then
+ * begins with the mask of slp_rollbacks for SLP_EXCEPT_LAST, so that its ones are the rows that were left out; bytes past them stay. All rows are
+ * judged, those that are left out too: refused with 1 to 11 as slp_write, then 13 for an id that the mask refuses, then 12 for a scratch or an output
+ * that is too short, in this order; slp_room of the whole game is always enough. */
+slp_written slp_write_final(uint8_t *out, size_t out_len, uint8_t *scratch, size_t scratch_len, slp_game game,
+                            SLP_STORE_PARAMETERS,
+                            const uint8_t *template_block, size_t template_len,
+                            const uint8_t *codes, size_t codes_len,
+                            const uint8_t *metadata, size_t metadata_len);
+
+/* As slp_write_final.
+ *
+ *     uint8_t scratch[3];    // the ids are 5, 6 and 5: the last two rows are written
+ *     slp_written w = slp_write_final_game(out, sizeof out, scratch, sizeof scratch, &game, &stores, start, none, none);
+ */
+static inline slp_written slp_write_final_game(uint8_t *out, size_t out_len, uint8_t *scratch, size_t scratch_len, const slp_game *game,
+                                               const slp_stores *s, slp_bytes template_block, slp_bytes codes, slp_bytes metadata)
+{
+	return slp_write_final(out, out_len, scratch, scratch_len, *game, SLP_STORES(s), template_block.p, template_block.len, codes.p, codes.len,
+	                       metadata.p, metadata.len);
 }
 
 /* ======== columns back from a replay ========
@@ -733,6 +758,17 @@ static inline slp_written slp_save(uint8_t *out, size_t out_len, const slp_opene
 
 	return slp_write_game(out, out_len, &o->game, &stores, slp_part(file, o->places.block_at, o->places.block_len),
 	                      slp_part(s->codes.p, 0, s->codes.len), slp_part(file, o->places.metadata_at, o->places.metadata_len));
+}
+
+/* The same of its final frames only. */
+static inline slp_written slp_save_final(uint8_t *out, size_t out_len, uint8_t *scratch, size_t scratch_len, const slp_opened *o,
+                                         const slp_space *s, const uint8_t *file)
+{
+	slp_stores stores = slp_stores_in(s);
+
+	return slp_write_final_game(out, out_len, scratch, scratch_len, &o->game, &stores,
+	                            slp_part(file, o->places.block_at, o->places.block_len), slp_part(s->codes.p, 0, s->codes.len),
+	                            slp_part(file, o->places.metadata_at, o->places.metadata_len));
 }
 
 /* ======== how much room to reserve ======== */

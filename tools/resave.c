@@ -5,7 +5,7 @@
 
 #include "tool.h"
 
-static const char *output_name(const char *path)
+const char *output_name(const char *path)
 {
 	return strcmp(path, "-") == 0 ? "standard output" : path;
 }
@@ -25,36 +25,46 @@ static void report(const char *in, const char *out, const content *was, const ui
 }
 
 /* A file's tail that is neither a brace nor metadata is in no column, and so it is not written. */
-static void warn_of_tail(const char *name, const replay *r)
+void warn_of_tail(const char *name, const replay *r)
 {
 	if (r->opened.places.tail == SLP_FILE_TAIL_ODD)
 		complain(name, "what stands after the event data, from byte %zu on, is no metadata and is left out", 15 + declared_length(r->file.bytes));
 }
 
-static int write_again(const char *in, const char *out, const replay *r, int progress)
+size_t room_for(const replay *r)
 {
 	const slp_places *p = &r->opened.places;
-	size_t room = slp_room(slp_plan_of(&r->opened.game, p->block_len, r->space.codes.len, p->metadata_len)).bytes;
+	return slp_room(slp_plan_of(&r->opened.game, p->block_len, r->space.codes.len, p->metadata_len)).bytes;
+}
+
+int save_written(const char *in, const char *out, slp_written w, const uint8_t *file, int progress)
+{
+	if (w.refused) {
+		complain(input_name(in), "refused %u: %s", w.refused, refusal_words(w.refused));
+		return FAILED;
+	}
+	progress_begin(progress, "writing", w.len);
+	int wrong = save(out, file, w.len);
+	progress_clear();
+	if (wrong)
+		complain(output_name(out), "%s", strerror(wrong));
+	return wrong ? FAILED : WELL;
+}
+
+static int write_again(const char *in, const char *out, const replay *r, int progress)
+{
+	size_t room = room_for(r);
 	uint8_t *file = malloc(room + 1);
 	if (!file) {
 		complain(output_name(out), "no memory");
 		return FAILED;
 	}
 	slp_written w = slp_save(file, room, &r->opened, &r->space, r->file.bytes);
-	int wrong = 0;
-	if (w.refused) {
-		complain(input_name(in), "refused %u: %s", w.refused, refusal_words(w.refused));
-	} else {
-		progress_begin(progress, "writing", w.len);
-		wrong = save(out, file, w.len);
-		progress_clear();
-	}
-	if (wrong)
-		complain(output_name(out), "%s", strerror(wrong));
-	if (!w.refused && !wrong)
+	int status = save_written(in, out, w, file, progress);
+	if (status == WELL)
 		report(in, out, &r->file, file, w.len);
 	free(file);
-	return w.refused || wrong ? FAILED : WELL;
+	return status;
 }
 
 int resave(const char *in, const char *out, int progress)

@@ -1,5 +1,5 @@
-/* slp: walks Slippi replays, checks them, lists their events, shows their metadata and frames, writes them again, writes a small one, says how much room to
- * reserve. */
+/* slp: walks Slippi replays, checks them, lists their events, shows their metadata and frames, writes them again, whole or their final frames only, writes a small
+ * one, says how much room to reserve. */
 #include <errno.h>
 #include <stdio.h>
 #include <string.h>
@@ -17,6 +17,8 @@ static const char HELP[] =
 	"  slp meta FILE       the metadata of a replay: its map, an entry a line, maps inside it further in\n"
 	"  slp table FILE      the frames of a replay as CSV: a line for each frame and player who is in it\n"
 	"  slp resave IN OUT   reads a replay into columns and writes it again; OUT must not exist yet\n"
+	"  slp final IN OUT    the same of the final frames only: of each frame id the last row; says how many rows\n"
+	"                      were dropped\n"
 	"  slp demo FILE       writes a small game and walks it; FILE must not exist yet\n"
 	"  slp room OPTION..   how many bytes to reserve for a replay before its match is known\n"
 	"  slp help            this text (also --help, -h)\n"
@@ -26,6 +28,7 @@ static const char HELP[] =
 	"nothing is an option.\n"
 	"\n"
 	"  --progress=WHEN     a bar on standard error: auto (on a terminal, from 64 MB on), always, never\n"
+	"  --final             table: the last row of each frame id alone\n"
 	"\n"
 	"What room is asked for, as --NAME=NUMBER; all but replay and block are 0 where they are not given:\n"
 	"\n"
@@ -52,7 +55,7 @@ static const char HELP[] =
 	"refused, a replay cut, or a file could not be read or written; 2 for wrong usage.\n";
 
 typedef struct {
-	int progress, help, version;
+	int progress, help, version, final;
 	room_wish room;
 	char **operands;
 	int count;
@@ -90,6 +93,8 @@ static int parse_option(const char *option, arguments *a)
 		a->help = 1;
 	else if (strcmp(option, "--version") == 0)
 		a->version = 1;
+	else if (strcmp(option, "--final") == 0)
+		a->final = 1;
 	else if (strncmp(option, "--progress=", 11) == 0)
 		return parse_progress(option + 11, a);
 	else
@@ -137,6 +142,8 @@ static int run(const arguments *a)
 	const char *command = a->operands[0];
 	char **files = a->operands + 1;
 	int count = a->count - 1;
+	if (a->final && strcmp(command, "table") != 0)
+		return wrong_usage("--final is not for", command);
 	if (strcmp(command, "room") == 0)
 		return count ? wrong_usage("room takes options alone, not", files[0]) : show_room(a->room);
 	if (a->room.given)
@@ -154,9 +161,11 @@ static int run(const arguments *a)
 	if (strcmp(command, "meta") == 0)
 		return count == 1 ? show_metadata(files[0]) : wrong_usage("meta needs one file", "");
 	if (strcmp(command, "table") == 0)
-		return count == 1 ? show_table(files[0], a->progress) : wrong_usage("table needs one file", "");
+		return count == 1 ? show_table(files[0], a->final, a->progress) : wrong_usage("table needs one file", "");
 	if (strcmp(command, "resave") == 0)
 		return count == 2 ? resave(files[0], files[1], a->progress) : wrong_usage("resave needs two files", "");
+	if (strcmp(command, "final") == 0)
+		return count == 2 ? write_final_frames(files[0], files[1], a->progress) : wrong_usage("final needs two files", "");
 	if (strcmp(command, "demo") == 0)
 		return count == 1 ? write_demo(files[0]) : wrong_usage("demo needs one file", "");
 	return wrong_usage("unknown command", command);

@@ -1,4 +1,4 @@
-/* slp table: the frames of a replay as CSV, a line for each frame and player who is in it. */
+/* slp table: the frames of a replay as CSV, a line for each frame and player who is in it; with --final the last row of each id alone. */
 #include <math.h>
 #include <stdio.h>
 #include <stdlib.h>
@@ -139,12 +139,13 @@ static void print_frame(const replay *r, size_t i)
 	}
 }
 
-/* The bar goes by the file's bytes, as if each frame had as many. */
-static void print_frames(const replay *r)
+/* Rows that have 1 in the mask are passed over. The bar goes by the file's bytes, as if each frame had as many. */
+static void print_frames(const replay *r, const uint8_t *mask)
 {
 	size_t frames = r->opened.game.frames.counts.frames, done = 0;
 	for (size_t i = 0; i < frames && !ferror(stdout); i++) {
-		print_frame(r, i);
+		if (!mask[i])
+			print_frame(r, i);
 		size_t now = (size_t)((uint64_t)r->file.len * (i + 1) / frames);
 		progress_add(now - done);
 		done = now;
@@ -157,19 +158,49 @@ static int bar_beside(int progress)
 	return progress == PROGRESS_AUTO && isatty(STDOUT_FILENO) ? PROGRESS_NEVER : progress;
 }
 
-int show_table(const char *path, int progress)
+static void print_table(const replay *r, const uint8_t *mask, int progress)
 {
-	replay r;
-	if (open_replay(path, progress, &r) != WELL)
-		return FAILED;
-	slp_version v = r.opened.game.frames.version;
+	slp_version v = r->opened.game.frames.version;
 	fputs("id,port,follower", stdout);
 	print_names(PRE, slp_columns(v, SLP_FAMILY_PRE));
 	print_names(POST, slp_columns(v, SLP_FAMILY_POST));
 	putchar('\n');
-	progress_begin(bar_beside(progress), "table", r.file.len);
-	print_frames(&r);
+	progress_begin(bar_beside(progress), "table", r->file.len);
+	print_frames(r, mask);
 	progress_clear();
+}
+
+/* A mask of the rows that another follows with the same id, or, where all rows are asked for, of none: to be freed, or NULL after words on standard
+ * error. */
+static uint8_t *rows_to_pass(const char *name, const replay *r, int final)
+{
+	size_t frames = r->opened.game.frames.counts.frames;
+	uint8_t *mask = calloc(frames + 1, 1), *scratch = malloc(SLP_MAX_FRAMES);
+	unsigned refused = 0;
+	if (!mask || !scratch)
+		complain(name, "no memory");
+	else if (final)
+		refused = slp_rollbacks(r->space.ids.p, frames, SLP_EXCEPT_LAST, mask, frames, scratch, SLP_MAX_FRAMES);
+	if (refused)
+		complain(name, "refused %u: %s", refused, refusal_words(refused));
+	if (refused || !scratch) {
+		free(mask);
+		mask = NULL;
+	}
+	free(scratch);
+	return mask;
+}
+
+int show_table(const char *path, int final, int progress)
+{
+	replay r;
+	if (open_replay(path, progress, &r) != WELL)
+		return FAILED;
+	uint8_t *mask = rows_to_pass(input_name(path), &r, final);
+	int status = mask ? WELL : FAILED;
+	if (mask)
+		print_table(&r, mask, progress);
+	free(mask);
 	close_replay(&r);
-	return WELL;
+	return status;
 }

@@ -64,6 +64,16 @@ typedef struct {
 int open_replay(const char *path, int progress, replay *r);
 void close_replay(replay *r);
 
+/* ---- resave.c: what writes a replay's columns again */
+
+const char *output_name(const char *path);
+/* That a tail is left out, where it is. */
+void warn_of_tail(const char *name, const replay *r);
+/* How many bytes no file of these columns exceeds. */
+size_t room_for(const replay *r);
+/* Saves the file that was written, or says why it was refused: WELL, or FAILED after words on standard error. */
+int save_written(const char *in, const char *out, slp_written w, const uint8_t *file, int progress);
+
 /* ---- progress.c: a bar on standard error */
 
 enum { PROGRESS_AUTO, PROGRESS_ALWAYS, PROGRESS_NEVER };
@@ -80,8 +90,10 @@ int walk_files(char **paths, int count, int progress);
 int check_files(char **paths, int count, int progress);
 int show_events(const char *path, int progress);
 int show_metadata(const char *path);
-int show_table(const char *path, int progress);
+/* With `final` the last row of each frame id alone. */
+int show_table(const char *path, int final, int progress);
 int resave(const char *in, const char *out, int progress);
+int write_final_frames(const char *in, const char *out, int progress);
 int write_demo(const char *path);
 
 /* ---- room.c */

@@ -4,8 +4,10 @@
 //!     bench count      instructions, under valgrind (callgrind): steady on any machine
 //!     bench rows       the same of rows: from 5,000 to 160,000 frames; and `bench rows count`
 //!     bench reads      the same of reading back: from 65,536 to 1,048,576 frames; and `bench reads count`
+//!     bench finals     the same of final frames only: with and without rollbacks, to 1,048,576 rows; and `bench finals count`
 //!     bench once WHAT GAME REPEATS    what `count` runs
 
+mod finals;
 mod plain;
 mod reads;
 mod rows;
@@ -27,9 +29,11 @@ fn main() {
 		["rows", "count"] => row_counts(),
 		["reads"] => read_times(),
 		["reads", "count"] => read_counts(),
+		["finals"] => final_times(),
+		["finals", "count"] => final_counts(),
 		["once", what, game, repeats] => once(what, number(game), number(repeats)),
 		_ => {
-			eprintln!("usage: bench [rows | reads] [count]");
+			eprintln!("usage: bench [rows | reads | finals] [count]");
 			std::process::exit(2)
 		}
 	}
@@ -119,6 +123,9 @@ fn once(what: &str, game: usize, repeats: usize) {
 	} else if reads::WHAT.contains(&what) {
 		let mut work = reads::Reads::new(reads::SHAPES[game]);
 		(0..repeats).for_each(|_| work.run(what));
+	} else if finals::WHAT.contains(&what) {
+		let mut work = finals::Finals::new(finals::GAMES[game]);
+		(0..repeats).for_each(|_| work.run(what));
 	} else {
 		let mut work = Work::new(SHAPES[game]);
 		(0..repeats).for_each(|_| work.run(what));
@@ -163,6 +170,27 @@ fn read_counts() {
 		for what in reads::WHAT {
 			let each = (collected(what, i, 3) - collected(what, i, 1)) / 2;
 			println!("{what:<34} {each:>14} instructions {:>12.1} a frame", each as f64 / shape.frames as f64);
+		}
+	}
+}
+
+fn final_times() {
+	for &game in finals::GAMES {
+		let mut work = finals::Finals::new(game);
+		println!("\n{}: two players at 3.18", game.name);
+		for what in finals::WHAT {
+			let least = best(|| work.run(what));
+			println!("{what:<34} {:>12.2} ms {:>12.2} ns a row", least / 1e6, least / game.rows as f64);
+		}
+	}
+}
+
+fn final_counts() {
+	for (i, &game) in finals::GAMES.iter().enumerate() {
+		println!("\n{}: two players at 3.18", game.name);
+		for what in finals::WHAT {
+			let each = (collected(what, i, 3) - collected(what, i, 1)) / 2;
+			println!("{what:<34} {each:>14} instructions {:>12.1} a row", each as f64 / game.rows as f64);
 		}
 	}
 }

@@ -23,7 +23,7 @@ pub const SHAPES: &[Shape] = &[
 pub const WHAT: &[&str] = &["reads: check", "reads: measure", "reads: read", "reads: write of the same game"];
 
 /// Cells are made of a shorter game's, again and again: valgrind would take long to make so many.
-const BASE: usize = 1024;
+pub const BASE: usize = 1024;
 
 pub struct Reads {
 	case: Case,
@@ -55,7 +55,7 @@ impl Reads {
 }
 
 /// A game of more frames, a multiple of its own: each column again and again.
-fn longer(mut case: Case, frames: usize) -> Case {
+pub fn longer(mut case: Case, frames: usize) -> Case {
 	for store in [&mut case.starts, &mut case.pres, &mut case.posts, &mut case.ends] {
 		*store = store.chunks(BASE).flat_map(|column| column.repeat(frames / BASE)).collect();
 	}

@@ -13,6 +13,9 @@ uint8_t real_slp_rollbacks(const uint32_t *ids, size_t ids_len, uint8_t keep, ui
                            size_t scratch_len);
 slp_written real_slp_write(uint8_t *out, size_t out_len, slp_game game, SLP_STORE_PARAMETERS, const uint8_t *template_block,
                            size_t template_len, const uint8_t *codes, size_t codes_len, const uint8_t *metadata, size_t metadata_len);
+slp_written real_slp_write_final(uint8_t *out, size_t out_len, uint8_t *scratch, size_t scratch_len, slp_game game, SLP_STORE_PARAMETERS,
+                                 const uint8_t *template_block, size_t template_len, const uint8_t *codes, size_t codes_len,
+                                 const uint8_t *metadata, size_t metadata_len);
 slp_reserved real_slp_room(slp_plan plan);
 slp_appended real_slp_write_frames(uint8_t *out, size_t out_len, size_t place, slp_frames frames, SLP_STORE_PARAMETERS, size_t a, size_t b);
 slp_appended real_slp_write_frame(uint8_t *out, size_t out_len, size_t place, slp_frames frames, SLP_STORE_PARAMETERS, size_t i);
@@ -295,6 +298,75 @@ slp_written slp_write(uint8_t *out, size_t out_len, slp_game game, SLP_STORE_PAR
 	slp_written w = real_slp_write(out, out_len, misread(game), STORES, template_block, template_len, codes, codes_len, metadata,
 	                               metadata_len);
 	return spoiled(w, out, out_len, metadata, metadata_len);
+}
+
+/* Ids of which the fault takes the first row for the last: the second of two like neighbours gets another. The changed store is a copy. */
+static const uint32_t *taken_apart(const uint32_t *ids, size_t len)
+{
+	static uint32_t copy[COPIED];
+	if (!faulty("final-neighbours") || len == 0 || len > COPIED)
+		return ids;
+	memcpy(copy, ids, 4 * len);
+	for (size_t i = 1; i < len; i++)
+		if (ids[i] == ids[i - 1])
+			copy[i - 1] = 1000000;
+	return copy;
+}
+
+/* Items of a row that another follows with the same id go to that row. */
+static const uint32_t *late_items(const uint32_t *offsets, size_t len, const uint32_t *ids, size_t rows)
+{
+	static uint32_t copy[COPIED];
+	if (!faulty("final-items") || len < 3 || len > COPIED)
+		return offsets;
+	memcpy(copy, offsets, 4 * len);
+	for (size_t i = 1; i + 1 < len && i < rows; i++)
+		if (ids[i] == ids[i - 1])
+			copy[i] = copy[i - 1];
+	return copy;
+}
+
+static slp_written spoiled_final(slp_written w, uint8_t *out, size_t out_len, uint8_t *scratch, size_t scratch_len, const uint32_t *ids, size_t rows)
+{
+	if (faulty("final-refused") && w.refused && out_len)
+		out[0] ^= 1;
+	if (faulty("final-scratch-refused") && w.refused == 12 && scratch_len)
+		scratch[0] ^= 1;
+	if (faulty("final-scratch-marked") && w.refused == 12 && scratch_len >= rows)
+		memset(scratch, 0, rows);
+	if (faulty("final-beyond") && !w.refused && w.len < out_len)
+		out[w.len] ^= 1;
+	if (faulty("final-scratch-beyond") && !w.refused && scratch_len > rows)
+		scratch[rows] ^= 1;
+	if (faulty("final-mask") && !w.refused && rows)
+		scratch[rows - 1] = 1;
+	if (faulty("final-late") && w.len > 1500)
+		out[w.len - 20] ^= 1;
+	if (faulty("final-len"))
+		w.len -= w.len > 5000;
+	if (faulty("final-order"))
+		w.refused = w.refused == 13 && scratch_len < rows ? 12 : w.refused;
+	if (faulty("final-number"))
+		w.refused = w.refused == 11 ? 13 : w.refused;
+	if (faulty("final-input") && !w.refused && rows)
+		spoil(ids);
+	return w;
+}
+
+slp_written slp_write_final(uint8_t *out, size_t out_len, uint8_t *scratch, size_t scratch_len, slp_game game, SLP_STORE_PARAMETERS,
+                            const uint8_t *template_block, size_t template_len, const uint8_t *codes, size_t codes_len,
+                            const uint8_t *metadata, size_t metadata_len)
+{
+	const uint32_t *given = ids;
+	item_offsets = late_items(item_offsets, item_offsets_len, ids, ids_len);
+	ids = taken_apart(ids, ids_len);
+	if (faulty("final-all"))
+		return real_slp_write(out, out_len, game, STORES, template_block, template_len, codes, codes_len, metadata, metadata_len);
+	if (faulty("final-spare") && scratch_len == ids_len && ids_len > 3)
+		scratch_len--;
+	slp_written w = real_slp_write_final(out, out_len, scratch, scratch_len, game, STORES, template_block, template_len, codes, codes_len,
+	                                     metadata, metadata_len);
+	return spoiled_final(w, out, out_len, scratch, scratch_len, given, ids_len);
 }
 
 slp_appended slp_write_frames(uint8_t *out, size_t out_len, size_t place, slp_frames frames, SLP_STORE_PARAMETERS, size_t a, size_t b)

@@ -59,6 +59,22 @@ static void write_and_read(void)
 	check_through(out, 28);
 }
 
+/* ---- final frames only */
+
+/* Three frames of a player at 0.1.0, of which the first is rolled back. */
+static void write_last_rows(void)
+{
+	static const uint32_t ids[3] = { 5, 6, 5 }, cells[3 * SLP_PRE_COLUMNS];
+	slp_game game = { .frames = { .version = { 0, 1, 0 }, .counts = { .frames = 3 }, .port_count = 1 } };
+	slp_stores stores = { .ids = { ids, 3 }, .pres = { cells, 3 * slp_columns(game.frames.version, SLP_FAMILY_PRE) },
+	                      .posts = { cells, 3 * slp_columns(game.frames.version, SLP_FAMILY_POST) } };
+	uint8_t block[320] = { 0 }, out[630];
+	slp_bytes none = { NULL, 0 }, start = { block, sizeof block };
+	uint8_t scratch[3];    // the ids are 5, 6 and 5: the last two rows are written
+	slp_written w = slp_write_final_game(out, sizeof out, scratch, sizeof scratch, &game, &stores, start, none, none);
+	printf("final frames: %zu bytes, mask %u %u %u\n", w.len, scratch[0], scratch[1], scratch[2]);
+}
+
 /* ---- columns back */
 
 static void open_and_save(const uint8_t *file, size_t len, uint8_t *out, size_t out_len)
@@ -196,6 +212,7 @@ int main(void)
 {
 	mask_frames();
 	write_and_read();
+	write_last_rows();
 	open_again();
 	reserve();
 	append_run();

@@ -193,6 +193,38 @@ for f in newer order cut unfilled tail unknown signature missing; do run table $
 run table directory
 to /dev/full table game.slp
 
+# ---- final frames only
+run final
+run final a
+run final a b c
+guarded final game.slp last.slp
+run walk last.slp
+run final game.slp last.slp
+run final game.slp missing/last.slp
+run final last.slp last-again.slp
+cmp last.slp last-again.slp && echo "last-again.slp: the same"
+from game.slp final - last-standard.slp
+to last-standard-too.slp final game.slp -
+for f in last-standard last-standard-too; do cmp last.slp $f.slp && echo "$f.slp: the same"; done
+from "$stored" final - stored-last.slp
+cmp "$stored" stored-last.slp && echo "stored-last.slp: the same"
+guarded final longer.slp longer-last.slp
+to /dev/full final game.slp -
+# the first frame has an id that no mask takes, in all of its six records
+cp game.slp far.slp
+for at in 809 822 889 956 1041 1126; do printf '\000\020\000\000' | dd of=far.slp bs=1 seek=$at conv=notrunc 2>/dev/null; done
+for f in far newer order cut unfilled unknown signature missing; do run final $f.slp never-last.slp; done
+run final directory never-last.slp
+[ -e never-last.slp ] || echo 'never-last.slp: not there'
+to last.csv table --final game.slp
+"$slp" table last.slp | cmp - last.csv && echo "last.csv: the table of last.slp"
+guarded table --final away.slp | cut -d, -f1-8 | sed -n '1,5p;$p'
+run table --final far.slp
+"$slp" table far.slp | head -n 2 | cut -d, -f1-5
+run walk --final game.slp
+run room --final
+run resave --final game.slp never-last.slp
+
 # ---- room
 guarded room --slots=2 --frames=28800 --items=20000
 run room
@@ -271,7 +303,7 @@ echo '$ slp --progress=always walk game.slp'
 "$slp" --progress=always walk game.slp 2>&1 >out | cat -v
 echo
 cat out
-for verb in table resave; do
+for verb in table resave final; do
 	echo "\$ slp --progress=always $verb game.slp"
-	"$slp" --progress=always $verb game.slp $([ $verb = table ] || echo bar.slp) 2>&1 >out | tr '\r' '\n' | sed -n 's/ .* 100%.*/: to the end/p'
+	"$slp" --progress=always $verb game.slp $([ $verb = table ] || echo bar-$verb.slp) 2>&1 >out | tr '\r' '\n' | sed -n 's/ .* 100%.*/: to the end/p'
 done

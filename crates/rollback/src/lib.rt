@@ -12,14 +12,14 @@ use frame::Rollbacks;
 pub mod frame;
 
 // How far the id of a cell stands from the first; FrameId::COUNT for an id out of range.
-fn place_of(cell: u32) -> usize
+pub fn place_of(cell: u32) -> usize
     ensures { λ r. ⌜ (r ≡ place cell) × (r ≤ 1048576) ⌝ }
 {
     FrameId::of_cell(cell).place()
 }
 
 // How many bytes of scratch the ids need: the largest id and 124, 0 for no frames. More than FrameId::COUNT where an id is out of range.
-fn scratch_len(ids: &[u32]) -> usize
+pub fn scratch_len(ids: &[u32]) -> usize
     ensures { λ r. ⌜ r ≡ needed (now (ids .entry)) ⌝ }
 {
     // 32 bits: four at a time are compared on every processor

@@ -1,2 +1,3 @@
+pub mod Finals
 pub mod Laws
 pub mod Only

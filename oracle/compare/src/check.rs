@@ -6,6 +6,7 @@ use peppi::{frame::Rollbacks, game::immutable::Game};
 use crate::{
 	back,
 	counts::Counts,
+	finals,
 	original::{self, run},
 	rows, runs,
 };
@@ -19,18 +20,18 @@ fn guard(i: usize) -> u8 {
 	(i * 167 + 89) as u8
 }
 
-fn kept(buffer: &[u8], from: usize) -> bool {
+pub fn kept(buffer: &[u8], from: usize) -> bool {
 	buffer.iter().enumerate().skip(from).all(|(i, &b)| b == guard(i))
 }
 
 /// Compares everything of one game; says the first difference of each kind.
 pub fn check(case: &Case, counts: &mut Counts) -> Vec<String> {
-	check_kinds(case, counts, &[check_file, check_masks, rows::check, runs::check, back::check])
+	check_kinds(case, counts, &[check_file, check_masks, finals::check, rows::check, runs::check, back::check])
 }
 
 /// Without the single calls for rows: each of them judges the whole game anew, which takes long in a large one, or in many. All rows by runs.
 pub fn check_writing(case: &Case, counts: &mut Counts) -> Vec<String> {
-	check_kinds(case, counts, &[check_file, check_masks, runs::check, back::check])
+	check_kinds(case, counts, &[check_file, check_masks, finals::check, runs::check, back::check])
 }
 
 type Kind = fn(&Case, &Game, &mut Counts) -> Option<String>;

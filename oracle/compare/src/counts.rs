@@ -6,6 +6,9 @@ pub struct Counts {
 	pub games: usize,
 	pub files: usize,
 	pub bytes: usize,
+	/// files of final frames only, and the rows that they leave out
+	pub final_files: usize,
+	pub dropped: usize,
 	pub masks: usize,
 	pub refused_masks: usize,
 	pub rows: usize,

@@ -14,6 +14,7 @@ mod cases;
 mod check;
 mod counts;
 mod fields;
+mod finals;
 mod maps;
 mod original;
 mod readers;
@@ -142,10 +143,12 @@ fn summary_back(c: &Counts) {
 fn summary(c: &Counts) -> Result<(), String> {
 	summary_back(c);
 	println!(
-		"{} games: {} files ({} bytes), {} masks ({} refused), {} rows, {} rows of runs, {} games read back, {} differences",
+		"{} games: {} files ({} bytes), {} of final frames ({} rows dropped), {} masks ({} refused), {} rows, {} rows of runs, {} games read back, {} differences",
 		c.games,
 		c.files,
 		c.bytes,
+		c.final_files,
+		c.dropped,
 		c.masks,
 		c.refused_masks,
 		c.rows,

@@ -13,6 +13,7 @@ pub mod shaped;
 pub mod lent;
 
 pub mod eights;
+pub mod kept;
 pub mod returning;
 
 pub use case::Case;

@@ -35,6 +35,7 @@ mod raw;
 
 mod append;
 pub mod columns;
+mod final_frames;
 mod masks;
 mod metadata;
 mod reader;
@@ -48,6 +49,7 @@ mod read;
 pub use append::{write_frame, write_frames};
 pub use check::check;
 pub use columns::Family;
+pub use final_frames::write_final;
 pub use game::*;
 pub use lengths::{Lengths, Places, Tail};
 pub use masks::{rollbacks, scratch_len, Rollbacks};

@@ -220,6 +220,8 @@ macro_rules! calls {
 calls! {
 	fn slp_write(out: *mut u8, out_len: usize, game: Game; template_block: *const u8, template_len: usize, codes: *const u8,
 		codes_len: usize, metadata: *const u8, metadata_len: usize) -> Written;
+	fn slp_write_final(out: *mut u8, out_len: usize, scratch: *mut u8, scratch_len: usize, game: Game; template_block: *const u8,
+		template_len: usize, codes: *const u8, codes_len: usize, metadata: *const u8, metadata_len: usize) -> Written;
 	fn slp_write_frames(out: *mut u8, out_len: usize, place: usize, frames: Frames; a: usize, b: usize) -> Appended;
 	fn slp_write_frame(out: *mut u8, out_len: usize, place: usize, frames: Frames; i: usize) -> Appended;
 	fn slp_frame_row(frames: Frames; index: usize) -> Answer<records::Frame>;

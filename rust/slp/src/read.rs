@@ -1,6 +1,7 @@
 //! Columns back from a replay.
 
 use crate::{
+	final_frames::write_final,
 	game::{Frames, Game},
 	lengths::{Lengths, Places, Tail},
 	plan::Plan,
@@ -143,6 +144,16 @@ impl Replay {
 		let len = write(&self.game, &stores, &mut out)?;
 		out.truncate(len);
 		Ok(out)
+	}
+
+	/// The file of its final frames only, and how many rows it leaves out, or the refusal of [`write_final`].
+	pub fn save_final(&self) -> Result<(Vec<u8>, usize), u8> {
+		let stores = self.stores();
+		let mut out = vec![0; room(&Plan::of(&self.game, &stores))?];
+		let mut scratch = vec![0; self.ids.len()];
+		let len = write_final(&self.game, &stores, &mut out, &mut scratch)?;
+		out.truncate(len);
+		Ok((out, scratch.iter().filter(|&&mark| mark == 1).count()))
 	}
 }
 

@@ -26,6 +26,15 @@ model_file model_write(const input *in);
 model_file model_run(const input *in, size_t a, size_t b);
 /* Refusals 1 to 7, 13 and 12, in that order, of a run at a place of an output of `room` bytes, or 0. */
 unsigned model_run_refusal(const input *in, size_t room, size_t place, size_t a, size_t b);
+/* Refusals 1 to 11, 13 and 12, in that order, of the final frames in an output and a scratch of so many bytes, or 0. */
+unsigned model_final_refusal(const input *in, size_t room, size_t scratch);
+/* The rows that are kept, of a game that is not refused by 1 to 11: of each id the last, as a game by themselves; its memory is to be freed. */
+typedef struct {
+	input in;
+	void *memory[CELL_STORES + 1];
+} model_kept;
+model_kept model_final(const input *in);
+void model_free_kept(model_kept *k);
 void model_free(model_file *f);
 /* The room of a plan. */
 slp_reserved model_room(const slp_plan *p);

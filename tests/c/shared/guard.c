@@ -153,6 +153,31 @@ slp_written guarded_write(const input *in, uint8_t *out, size_t out_len)
 	return w;
 }
 
+slp_written guarded_final(const input *in, uint8_t *out, size_t out_len, uint8_t *scratch, size_t scratch_len)
+{
+	input lent = *in;
+	loan loans[LOANS];
+	lend_input(&lent, loans);
+	loan o = lend(out, out_len, 1), s = lend(scratch, scratch_len, 1);
+	slp_written w =
+		slp_write_final_game(o.data, out_len, s.data, scratch_len, &lent.game, &lent.stores, lent.block, lent.codes, lent.metadata);
+	take_back(loans);
+	CHECK(memcmp(&lent.game, &in->game, sizeof lent.game) == 0);
+	CHECK(w.refused <= 13);
+	CHECK(w.refused ? w.len == 0 : w.len <= out_len);
+	if (!w.refused)
+		check_room(in, w.len);
+	CHECK(kept(&o, w.len));
+	CHECK(kept(&s, w.refused ? 0 : in->game.frames.counts.frames));
+	if (out_len)
+		memcpy(out, o.base + o.front, out_len);
+	if (scratch_len)
+		memcpy(scratch, s.base + s.front, scratch_len);
+	give_back(&o);
+	give_back(&s);
+	return w;
+}
+
 slp_appended guarded_run(const input *in, uint8_t *out, size_t out_len, size_t place, size_t a, size_t b)
 {
 	input lent = *in;

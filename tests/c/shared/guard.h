@@ -40,6 +40,8 @@ void check_room(const input *in, size_t len);
 /* The file of a game is sound; where its metadata is no map's body, that is what is wrong with it. */
 void check_sound(const input *in, const uint8_t *file, size_t len);
 slp_written guarded_write(const input *in, uint8_t *out, size_t out_len);
+/* The final frames alone; the scratch is lent between guards too. */
+slp_written guarded_final(const input *in, uint8_t *out, size_t out_len, uint8_t *scratch, size_t scratch_len);
 /* The run of frames from a up to b; with b at ONE_FRAME, frame a by the call for one frame. */
 #define ONE_FRAME (SIZE_MAX - 1)
 slp_appended guarded_run(const input *in, uint8_t *out, size_t out_len, size_t place, size_t a, size_t b);

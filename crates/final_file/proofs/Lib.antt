@@ -1,0 +1,10 @@
+pub mod Files
+pub mod Splits
+pub mod Lengths
+pub mod Outcomes
+pub mod Steps
+pub mod Only
+pub mod Same
+pub mod Cases
+pub mod Again
+pub mod Shorter

@@ -1,0 +1,11 @@
+pub mod Gather
+pub mod Slots
+pub mod Ranges
+pub mod Events
+pub mod Final
+pub mod Fits
+pub mod Ports
+pub mod Judged
+pub mod Cases
+pub mod Once
+pub mod Alone
