@@ -23,8 +23,8 @@ PROGRAMS := $(basename $(notdir $(wildcard tests/c/programs/*.c tests/c/programs
 SHARED_OBJECTS := $(patsubst %.c,target/c/%.o,$(wildcard tests/c/shared/*.c tests/c/model/*.c))
 EXAMPLES := $(basename $(notdir $(wildcard examples/*.c)))
 # Programs that must fail over a library with a fault.
-FAULTED := cases refusals fuzz rows row_runs eights runs final layout map room apart read read_refusals check stack
-TESTS := $(PROGRAMS:%=target/c/bin/%) target/c/bin/header_examples target/c/bin/foreign target/c/bin/stack $(EXAMPLES:%=target/c/examples/%) $(FAULTED:%=target/c/faults/%)
+FAULTED := cases refusals fuzz rows row_runs eights runs final live layout map room apart read read_refusals check stack
+TESTS := $(PROGRAMS:%=target/c/bin/%) target/c/bin/header_examples target/c/bin/foreign target/c/bin/stack target/c/bin/dying.so target/c/bin/live_runs $(EXAMPLES:%=target/c/examples/%) $(FAULTED:%=target/c/faults/%)
 
 .PHONY: all lib tests test test-rust examples install uninstall clean help always
 .DELETE_ON_ERROR:
@@ -46,6 +46,10 @@ target/c/tools/%.o: tools/%.c Makefile
 	$(CC) $(C11) $(CFLAGS) -DTOOL_VERSION='"$(VERSION)"' -MMD -MP -c -o $@ $<
 
 target/c/tests/%.o: tests/%.c Makefile
+	@mkdir -p $(@D)
+	$(CC) $(C11) $(TEST_PATHS) $(CFLAGS) -MMD -MP -c -o $@ $<
+
+target/c/bench/live_runs.o: bench/live_runs.c Makefile
 	@mkdir -p $(@D)
 	$(CC) $(C11) $(TEST_PATHS) $(CFLAGS) -MMD -MP -c -o $@ $<
 
@@ -86,6 +90,16 @@ target/c/bin/stack: target/c/bench/stack.o $(SLP_LIB)
 	@mkdir -p $(@D)
 	$(CC) $(CFLAGS) $(LDFLAGS) -Wl,-z,now -o $@ $^
 
+# Recordings in runs, to be counted under valgrind.
+target/c/bin/live_runs: target/c/bench/live_runs.o $(SHARED_OBJECTS) $(SLP_LIB)
+	@mkdir -p $(@D)
+	$(CC) $(CFLAGS) $(LDFLAGS) -o $@ $^
+
+# What kills a recorder.
+target/c/bin/dying.so: tests/c/dying.c Makefile
+	@mkdir -p $(@D)
+	$(CC) $(C11) $(CFLAGS) -fPIC -shared -o $@ $<
+
 target/c/faults/stack: target/c/bench/stack.o target/c/tests/c/faults.o target/c/faults/slp.o
 	$(CC) $(CFLAGS) $(LDFLAGS) -Wl,-z,now -o $@ $^
 
@@ -93,7 +107,7 @@ target/c/faults/stack: target/c/bench/stack.o target/c/tests/c/faults.o target/c
 target/c/faults/slp.o: $(SLP_LIB) Makefile
 	@mkdir -p $(@D)
 	$(LD) -r --whole-archive $< -o $@.tmp
-	$(OBJCOPY) $(foreach call,columns first_place walk step_at rollbacks measure read check write write_final write_frames write_frame write_map read_map frame_row post_row rows pre_of room,--redefine-sym slp_$(call)=real_slp_$(call)) $@.tmp $@
+	$(OBJCOPY) $(foreach call,columns first_place walk step_at rollbacks measure read check write write_final write_frames write_frame write_head write_end length_field write_map read_map frame_row post_row rows pre_of room,--redefine-sym slp_$(call)=real_slp_$(call)) $@.tmp $@
 	@rm -f $@.tmp
 
 target/c/faults/%: target/c/tests/c/programs/%.o $(SHARED_OBJECTS) target/c/tests/c/faults.o target/c/faults/slp.o
@@ -111,7 +125,7 @@ test: tests
 	@tests/agree.sh
 	@VALGRIND='$(VALGRIND)' PROGRAMS='$(PROGRAMS)' FAULTED='$(FAULTED)' tests/c/run $(TOOL) $(SLP_LIB)
 
-test-rust: $(SLP_LIB)
+test-rust: $(SLP_LIB) target/c/bin/dying.so
 	@tests/rust.sh $(SLP_LIB)
 
 # Made anew each time: another PREFIX may be asked for.

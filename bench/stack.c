@@ -89,6 +89,9 @@ static void call_step_at(void) { kept = slp_step_at(file, file_len, slp_first_pl
 static void call_rollbacks(void) { kept = 1u - slp_rollbacks(ids, game.frames.counts.frames, SLP_EXCEPT_LAST, mask, sizeof mask, scratch, sizeof scratch); }
 static void call_write_frames(void) { kept = 1u + slp_write_frames(out, sizeof out, 0, game.frames, SLP_STORES(&stores), 0, game.frames.counts.frames).end; }
 static void call_write_frame(void) { kept = 1u + slp_write_frame(out, sizeof out, 0, game.frames, SLP_STORES(&stores), 0).end; }
+static void call_write_head(void) { kept = slp_write_game_head(out, sizeof out, &game, block, codes).end; }
+static void call_write_end(void) { kept = slp_write_game_end(out, sizeof out, 0, &game, metadata).end; }
+static void call_length_field(void) { kept = 1u + slp_length_field(file_len).bytes[3]; }
 static void call_frame_row(void) { kept = 1u + slp_frame_row(game.frames, SLP_STORES(&stores), 0).row.port_count; }
 static void call_pre_row(void) { kept = 1u + slp_pre_row(game.frames, SLP_STORES(&stores), 0, 0).row.state; }
 static void call_post_row(void) { kept = 1u + slp_post_row(game.frames, SLP_STORES(&stores), 0, 0).row.state; }
@@ -132,6 +135,9 @@ static const struct {
 	{ "slp_write_final", call_write_final, 12700 },
 	{ "slp_write_frames", call_write_frames, 4900 },
 	{ "slp_write_frame", call_write_frame, 4900 },
+	{ "slp_write_head", call_write_head, 5200 },
+	{ "slp_write_end", call_write_end, 256 },
+	{ "slp_length_field", call_length_field, 256 },
 	{ "slp_walk", call_walk, 2800 },
 	{ "slp_step_at", call_step_at, 2800 },
 	{ "slp_check", call_check, 2900 },

@@ -1,11 +1,14 @@
-/* Records a match live. The frames that were finished since the last call are lent as a small game of their own, and their events are appended to what is
- * recorded so far; at the end the record is compared with the file of the whole match.
+/* Records a match live, to a file: the head before its first frame, runs of frames as they are finished, the end, and the length last. Each step is on the
+ * disk before the next one begins, so that a recorder that dies leaves a replay which can be read as far as it got.
  *
- *     cc -std=c11 record_live.c $(pkg-config --cflags --libs slp) -o record_live && ./record_live
+ *     cc -std=c11 record_live.c $(pkg-config --cflags --libs slp) -o record_live && ./record_live match.slp
  */
+#define _XOPEN_SOURCE 700
+#include <fcntl.h>
 #include <slp.h>
 #include <stdio.h>
 #include <string.h>
+#include <unistd.h>
 
 enum { FRAMES = 60, RUN = 7, ROOM = 1 << 16 };
 
@@ -38,6 +41,8 @@ static void play(part *m, uint32_t first, uint32_t n)
 	}
 	m->game.frames = (slp_frames){ .version = v, .counts = { .frames = n, .items = items }, .ports = { { .port = 0 } }, .port_count = 1 };
 	m->game.start = (slp_start){ .is_pal = { 1, 0 }, .is_frozen_ps = { 1, 0 } };
+	m->game.end = (slp_end){ .given = 1, .method = 2, .initiator = 255 };
+	m->game.metadata_given = 1;
 	m->stores = (slp_stores){
 		.ids = { m->ids, n }, .starts = { m->starts, slp_columns(v, SLP_FAMILY_FRAME_START) * n },
 		.pres = { m->pres, slp_columns(v, SLP_FAMILY_PRE) * n }, .posts = { m->posts, slp_columns(v, SLP_FAMILY_POST) * n },
@@ -45,41 +50,65 @@ static void play(part *m, uint32_t first, uint32_t n)
 	};
 }
 
-static slp_written write_all(const part *m, uint8_t *out)
+/* Puts bytes at the end of the file; they are on the disk when it returns. */
+static int put(int file, const uint8_t *bytes, size_t n)
 {
-	static const uint8_t block[418];
-	slp_bytes none = { NULL, 0 }, start = { block, sizeof block };
-	return slp_write_game(out, ROOM, &m->game, &m->stores, start, none, none);
+	while (n) {
+		ssize_t done = write(file, bytes, n);
+		if (done < 0)
+			return 0;
+		bytes += done;
+		n -= (size_t)done;
+	}
+	return fsync(file) == 0;
 }
 
-int main(void)
+/* The whole recording; its bytes, or 0 where a call refuses or the file cannot be written. */
+static size_t record(int file, slp_bytes block, slp_bytes metadata)
 {
 	static part m;
-	static uint8_t live[ROOM], file[ROOM];
-	/* the head: the file of the match before its first frame, without the brace at its end */
+	static uint8_t buffer[ROOM];
+	slp_bytes no_codes = { NULL, 0 };
 	play(&m, 0, 0);
-	slp_written head = write_all(&m, live);
-	size_t place = head.len - 1;
-	int runs = 0;
-	for (uint32_t done = 0; !head.refused && done < FRAMES; runs++) {
-		uint32_t n = FRAMES - done < RUN ? FRAMES - done : RUN;
+	slp_appended head = slp_write_game_head(buffer, ROOM, &m.game, block, no_codes);
+	if (head.refused || !put(file, buffer, head.end))
+		return 0;
+	size_t events = head.end;
+	for (uint32_t done = 0, n; done < FRAMES; done += n) {
+		n = FRAMES - done < RUN ? FRAMES - done : RUN;
 		play(&m, done, n);
-		slp_appended r = slp_write_frames(live, ROOM, place, m.game.frames, SLP_STORES(&m.stores), 0, n);
-		if (r.refused) {
-			printf("refused %u\n", r.refused);
-			return 1;
-		}
-		place = r.end;
-		done += n;
+		slp_appended run = slp_write_frames(buffer, ROOM, 0, m.game.frames, SLP_STORES(&m.stores), 0, n);
+		if (run.refused || !put(file, buffer, run.end))
+			return 0;
+		events += run.end;
 	}
-	printf("recorded %d frames in %d runs: %zu bytes of events\n", FRAMES, runs, place - (head.len - 1));
-	/* the match is over: the length of the event data, and the brace */
-	for (int i = 0; i < 4; i++)
-		live[11 + i] = (uint8_t)((place - 15) >> (24 - 8 * i));
-	live[place] = 0x7d;
+	slp_closed end = slp_write_game_end(buffer, ROOM, 0, &m.game, metadata);
+	if (end.refused || !put(file, buffer, end.end))
+		return 0;
+	slp_field length = slp_length_field(events + end.events - 15);
+	int filled = !length.refused && pwrite(file, length.bytes, 4, 11) == 4 && fsync(file) == 0;
+	return filled ? events + end.end : 0;
+}
+
+int main(int argc, char **argv)
+{
+	static const uint8_t zeros[418];
+	static uint8_t live[ROOM], whole[ROOM], map[64];
+	static part m;
+	slp_entry last = { SLP_ENTRY_NUMBER, 0, 9, (uint32_t)(SLP_FIRST_FRAME_ID + FRAMES - 1), 0 };
+	slp_written body = slp_write_map(map, sizeof map, &last, SLP_CELLS(1), (const uint8_t *)"lastFrame", 9, 1);
+	slp_bytes block = { zeros, sizeof zeros }, metadata = { map, body.len }, none = { NULL, 0 };
+	int file = argc == 2 ? open(argv[1], O_RDWR | O_CREAT | O_TRUNC, 0644) : -1;
+	if (file < 0) {
+		fprintf(stderr, "usage: record_live REPLAY\n");
+		return 2;
+	}
+	size_t len = record(file, block, metadata);
+	printf("recorded %d frames, %d a run: %zu bytes\n", FRAMES, RUN, len);
+	/* the file of the whole match at once */
 	play(&m, 0, FRAMES);
-	slp_written w = write_all(&m, file);
-	int same = !w.refused && w.len == place + 1 && memcmp(live, file, w.len) == 0;
+	slp_written w = slp_write_game(whole, ROOM, &m.game, &m.stores, block, none, metadata);
+	int same = len > 0 && w.len == len && pread(file, live, len, 0) == (ssize_t)len && memcmp(live, whole, len) == 0;
 	printf("the file of the whole match: %zu bytes, %s\n", w.len, same ? "the same" : "others");
-	return !same;
+	return close(file) != 0 || !same;
 }

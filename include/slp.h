@@ -25,7 +25,7 @@ enum {
 	/* version above 3.18.0 */
 	SLP_VERSION_TOO_NEW = 1,
 	/* a count exceeds its maximum: frames 1,048,576; items 4,194,304; rows of each stage family 1,048,576; padded codes 16,777,216
-	 * bytes; metadata 65,535 */
+	 * bytes; metadata 65,535; length field: event data over 4,294,967,295 bytes */
 	SLP_TOO_MANY = 2,
 	/* a cell store's length is not columns of this version times rows (times slots) */
 	SLP_BAD_STORE = 3,
@@ -48,7 +48,7 @@ enum {
 	SLP_BAD_CODES = 10,
 	/* double end without an end, or, from 2.0, an end's initiator outside -1..3 */
 	SLP_BAD_END = 11,
-	/* output, mask, scratch or a store to be filled too short; run of frames: also a place beyond the output */
+	/* output, mask, scratch or a store to be filled too short; run of frames and end of a recording: also a place beyond the output */
 	SLP_SHORT_OUTPUT = 12,
 	/* mask, final frames: an id below -123 or above 1,048,452; row: an index not below frames or, for a family's own row, its rows; or a slot that is
 	 * not there; run of frames: a range that is reversed or ends beyond the frames; rows of a run: no such family or slot, or a range that is reversed
@@ -818,7 +818,7 @@ static inline slp_plan slp_plan_of(const slp_game *game, size_t template_len, si
 }
 
 typedef struct {
-	uint8_t refused;   /* 0, or 1 to 7, 13 or 12, judged in that order */
+	uint8_t refused;   /* 0, or of frames 1 to 7, 13 or 12, judged in that order; of a head 1, 2, 8, 9, 10 or 12 */
 	size_t end;        /* the place after the last byte that was written; 0 on a refusal */
 } slp_appended;
 
@@ -833,6 +833,57 @@ slp_appended slp_write_frames(uint8_t *out, size_t out_len, size_t place, slp_fr
 
 /* Frame `i` alone: the run from i up to i + 1. */
 slp_appended slp_write_frame(uint8_t *out, size_t out_len, size_t place, slp_frames frames, SLP_STORE_PARAMETERS, size_t i);
+
+/* ======== a live recording ========
+ *
+ * A recorder begins its file with the head, appends the frames as they are finished (slp_write_frames), closes the file with the end, and fills in the
+ * length last: byte for byte the file that slp_write gives for the game. Until then the length is zero, and what stands there is read as slp_walk says.
+ *
+ *     slp_game game = { .frames = { .version = { 0, 1, 0 } }, .end = { .given = 1, .method = 3 } };
+ *     slp_bytes none = { NULL, 0 }, start = { block, sizeof block };
+ *     slp_appended h = slp_write_game_head(out, sizeof out, &game, start, none);    // h.end is 350
+ *     slp_closed c = slp_write_game_end(out, sizeof out, h.end, &game, none);    // behind the last frame; c.end is 353
+ *     if (!c.refused) memcpy(out + 11, slp_length_field(c.events - 15).bytes, 4);    // 00 00 01 51
+ */
+
+/* All that stands before the first frame, at the start of `out`: the signature, a length of zero, the payload table, GameStart and the blocks of codes.
+ * Bytes behind it stay. Refusals are those of slp_write for these parts. */
+slp_appended slp_write_head(uint8_t *out, size_t out_len, slp_version version, slp_start start, uint8_t codes_given, uint32_t actual_size,
+                            const uint8_t *template_block, size_t template_len,
+                            const uint8_t *codes, size_t codes_len);
+
+/* As slp_write_head; of the game, its version, start and codes are looked at. */
+static inline slp_appended slp_write_game_head(uint8_t *out, size_t out_len, const slp_game *game, slp_bytes template_block, slp_bytes codes)
+{
+	return slp_write_head(out, out_len, game->frames.version, game->start, game->codes_given, game->actual_size, template_block.p,
+	                      template_block.len, codes.p, codes.len);
+}
+
+typedef struct {
+	uint8_t refused;   /* 0, or 1, 2, 11 or 12 */
+	size_t events;     /* the place after the last event; 0 on a refusal */
+	size_t end;        /* the place after the tail; 0 on a refusal */
+} slp_closed;
+
+/* All that stands behind the last frame, at `place` of `out`: the ends, and the tail with its metadata. The place need not be the file's: a recorder may
+ * hold the end alone in memory. Bytes before the place and from the end place on stay. */
+slp_closed slp_write_end(uint8_t *out, size_t out_len, size_t place, slp_version version, slp_end end, uint8_t double_end,
+                         uint8_t metadata_given, const uint8_t *metadata, size_t metadata_len);
+
+/* As slp_write_end; of the game, its version, ends and mark of metadata are looked at. */
+static inline slp_closed slp_write_game_end(uint8_t *out, size_t out_len, size_t place, const slp_game *game, slp_bytes metadata)
+{
+	return slp_write_end(out, out_len, place, game->frames.version, game->end, game->double_end, game->metadata_given, metadata.p,
+	                     metadata.len);
+}
+
+typedef struct {
+	uint8_t refused;    /* 0, or 2 */
+	uint8_t bytes[4];   /* zeros on a refusal */
+} slp_field;
+
+/* The bytes for offset 11 of a file with `n` bytes of event data: from offset 15 up to the place after the last event. */
+slp_field slp_length_field(size_t n);
 
 /* ======== the metadata map ========
  *

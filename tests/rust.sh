@@ -12,5 +12,8 @@ said=$CARGO_TARGET_DIR/said
 cargo test --quiet --manifest-path rust/slp/Cargo.toml >"$said" 2>&1 || { cat "$said"; exit 1; }
 passed=$(awk '/^test result: ok/ { n += $4 } END { print n }' "$said")
 cargo build --quiet --examples --manifest-path rust/slp/Cargo.toml
-tests/c/examples.sh "$CARGO_TARGET_DIR/${CARGO_BUILD_TARGET:-}/debug/examples" | diff -u tests/c/examples.expected -
+examples=$CARGO_TARGET_DIR/${CARGO_BUILD_TARGET:-}/debug/examples
+tests/c/examples.sh "$examples" | diff -u tests/c/examples.expected -
+printf 'rust: '
+tests/c/killed.sh "$examples" target/c/bin/dying.so
 echo "rust: $passed passed, examples as expected"

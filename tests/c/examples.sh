@@ -4,7 +4,8 @@ set -eu
 bin=$1
 "$bin/masks"
 "$bin/rows"
-"$bin/record_live"
+"$bin/record_live" "$bin/live.slp"
+"$bin/walk_file" "$bin/live.slp" | tail -1
 "$bin/write_game" "$bin/game.slp"
 "$bin/walk_file" "$bin/game.slp"
 head -c 900 "$bin/game.slp" >"$bin/cut.slp"

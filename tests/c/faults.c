@@ -19,6 +19,11 @@ slp_written real_slp_write_final(uint8_t *out, size_t out_len, uint8_t *scratch,
 slp_reserved real_slp_room(slp_plan plan);
 slp_appended real_slp_write_frames(uint8_t *out, size_t out_len, size_t place, slp_frames frames, SLP_STORE_PARAMETERS, size_t a, size_t b);
 slp_appended real_slp_write_frame(uint8_t *out, size_t out_len, size_t place, slp_frames frames, SLP_STORE_PARAMETERS, size_t i);
+slp_appended real_slp_write_head(uint8_t *out, size_t out_len, slp_version version, slp_start start, uint8_t codes_given, uint32_t actual_size,
+                                 const uint8_t *template_block, size_t template_len, const uint8_t *codes, size_t codes_len);
+slp_closed real_slp_write_end(uint8_t *out, size_t out_len, size_t place, slp_version version, slp_end end, uint8_t double_end,
+                              uint8_t metadata_given, const uint8_t *metadata, size_t metadata_len);
+slp_field real_slp_length_field(size_t n);
 slp_written real_slp_write_map(uint8_t *out, size_t out_len, const slp_entry *entries, size_t cells, const uint8_t *texts, size_t texts_len,
                                size_t count);
 slp_map_read real_slp_read_map(const uint8_t *body, size_t body_len, slp_entry *entries, size_t cells);
@@ -402,6 +407,81 @@ slp_appended slp_write_frame(uint8_t *out, size_t out_len, size_t place, slp_fra
 	if (faulty("frame-far") && i == SIZE_MAX)
 		return (slp_appended){ 12, 0 };
 	return real_slp_write_frame(out, out_len, place, frames, STORES, i);
+}
+
+slp_appended slp_write_head(uint8_t *out, size_t out_len, slp_version version, slp_start start, uint8_t codes_given, uint32_t actual_size,
+                            const uint8_t *template_block, size_t template_len, const uint8_t *codes, size_t codes_len)
+{
+	if (faulty("head-codes"))
+		codes_given = codes_given == 1;
+	slp_appended r = real_slp_write_head(out, out_len, version, start, codes_given, actual_size, template_block, template_len, codes, codes_len);
+	if (faulty("head-length") && !r.refused)
+		out[14] = 1;
+	if (faulty("head-late") && r.end > 1000)
+		out[r.end - 1] ^= 1;
+	if (faulty("head-end"))
+		r.end += !r.refused && codes_given;
+	if (faulty("head-refused") && r.refused && out_len)
+		out[0] ^= 1;
+	if (faulty("head-beyond") && !r.refused && r.end < out_len)
+		out[r.end] ^= 1;
+	if (faulty("head-outside") && out_len)
+		out[out_len] ^= 1;
+	if (faulty("head-order"))
+		r.refused = r.refused == 10 && out_len < 320 ? 12 : r.refused;
+	if (faulty("head-most"))
+		r.refused = codes_given && codes_len == SLP_MAX_CODES + 1 && r.refused == 2 ? 10 : r.refused;
+	if (faulty("head-input") && codes_len)
+		spoil(codes);
+	return r;
+}
+
+slp_closed slp_write_end(uint8_t *out, size_t out_len, size_t place, slp_version version, slp_end end, uint8_t double_end,
+                         uint8_t metadata_given, const uint8_t *metadata, size_t metadata_len)
+{
+	if (faulty("end-double"))
+		double_end = double_end == 1;
+	if (faulty("end-start") && place > 0 && place <= out_len)
+		place--;
+	slp_closed r = real_slp_write_end(out, out_len, place, version, end, double_end, metadata_given, metadata, metadata_len);
+	if (faulty("end-events") && !r.refused)
+		r.events = r.end;
+	if (faulty("end-tail") && !r.refused)
+		r.events -= end.given && !metadata_given;
+	if (faulty("end-beyond") && r.refused == 12 && place > out_len)
+		r = (slp_closed){ 0, place, place + 1 };
+	if (faulty("end-places"))
+		r.events += r.refused == 11;
+	if (faulty("end-refused") && r.refused && out_len)
+		out[out_len - 1] ^= 1;
+	if (faulty("end-before") && !r.refused && place)
+		out[place - 1] ^= 1;
+	if (faulty("end-after") && !r.refused && r.end < out_len)
+		out[r.end] ^= 1;
+	if (faulty("end-last") && !r.refused)
+		out[r.end - 1] ^= 1;
+	if (faulty("end-order"))
+		r.refused = r.refused == 2 && end.initiator == 4 ? 11 : r.refused;
+	if (faulty("end-input") && metadata_len)
+		spoil(metadata + metadata_len - 1);
+	return r;
+}
+
+slp_field slp_length_field(size_t n)
+{
+	slp_field f = real_slp_length_field(n);
+	if (faulty("field-greatest") && n == UINT32_MAX)
+		f = (slp_field){ 2, { 0 } };
+	if (faulty("field-wraps") && f.refused)
+		f = real_slp_length_field((uint32_t)n);
+	if (faulty("field-refused"))
+		f.bytes[3] |= f.refused != 0;
+	if (faulty("field-order")) {
+		uint8_t first = f.bytes[0];
+		f.bytes[0] = f.bytes[3];
+		f.bytes[3] = first;
+	}
+	return f;
 }
 
 

@@ -130,6 +130,19 @@ static void append_run(void)
 	printf("one byte less: refused %u\n", slp_write_frame(out, 93, 1, game.frames, SLP_STORES(&stores), 0).refused);
 }
 
+/* A recording without frames, with an end. */
+static void record_live(void)
+{
+	uint8_t block[320] = { 0 }, out[353];
+	slp_game game = { .frames = { .version = { 0, 1, 0 } }, .end = { .given = 1, .method = 3 } };
+	slp_bytes none = { NULL, 0 }, start = { block, sizeof block };
+	slp_appended h = slp_write_game_head(out, sizeof out, &game, start, none);    // h.end is 350
+	slp_closed c = slp_write_game_end(out, sizeof out, h.end, &game, none);    // behind the last frame; c.end is 353
+	if (!c.refused) memcpy(out + 11, slp_length_field(c.events - 15).bytes, 4);    // 00 00 01 51
+	printf("recorded %zu and %zu: %02x %02x %02x %02x, %s\n", h.end, c.end, out[11], out[12], out[13], out[14],
+	       slp_walk(out, sizeof out).whole ? "whole" : "cut");
+}
+
 /* ---- the metadata map */
 
 static void write_and_read_map(void)
@@ -216,6 +229,7 @@ int main(void)
 	open_again();
 	reserve();
 	append_run();
+	record_live();
 	write_and_read_map();
 	show_rows();
 	return 0;

@@ -13,7 +13,10 @@ use Rattle.ser.specs.declared.written.Written.{Written}
 use Rattle.ser.specs.Write.{WrittenNumbers, writtenNumbers}
 use Rattle.append.specs.declared.appended.Appended.{Appended}
 use Rattle.append.specs.Run.{AppendedNumbers, appendedNumbers}
+use Rattle.live.specs.declared.closed.Closed.{Closed}
+use Rattle.live.specs.End.{ClosedNumbers, closedNumbers}
 use Rattle.answers.specs.declared.SlpAppended.{SlpAppended}
+use Rattle.answers.specs.declared.SlpClosed.{SlpClosed}
 use Rattle.answers.specs.declared.SlpStep.{SlpStep}
 use Rattle.answers.specs.declared.SlpWalked.{SlpWalked}
 use Rattle.answers.specs.declared.SlpWritten.{SlpWritten}
@@ -45,3 +48,9 @@ appendedAs w = appendedStruct (appendedNumbers w)
 -- 0 keeps an id's first frame, every other number its last
 abbrev pub keepOf : ℕ → Rollbacks
 keepOf keep = cond (yes keep) ExceptLast ExceptFirst
+
+abbrev pub closedStruct : ClosedNumbers → SlpClosed
+closedStruct n = record { refused = n .number; events = n .events; end = n .end }
+
+abbrev pub closedAs : Closed → SlpClosed
+closedAs c = closedStruct (closedNumbers c)

@@ -1,10 +1,11 @@
 // The answers as structs of numbers: an enum does not cross to C. A field that an answer lacks is 0.
 ghost use mathlib.Core.Path.{_≡_};
 ghost use mathlib.Core.Bool.{cond};
-ghost use Rattle.answers.specs.Answers.{stepped, walked, written, appendedAs};
+ghost use Rattle.answers.specs.Answers.{stepped, walked, written, appendedAs, closedAs};
 use append::appended::Appended;
 use de::Walked;
 use head::Step;
+use live::closed::Closed;
 use ser::written::Written;
 
 pub mod mask;
@@ -41,6 +42,13 @@ pub struct SlpWritten {
 #[repr(C)]
 pub struct SlpAppended {
     pub refused: u8,
+    pub end: usize,
+}
+
+#[repr(C)]
+pub struct SlpClosed {
+    pub refused: u8,
+    pub events: usize,
     pub end: usize,
 }
 
@@ -134,5 +142,22 @@ pub fn appended_numbers(w: Appended) -> SlpAppended
     match w {
         Appended::End(end) => SlpAppended { refused: 0, end },
         Appended::Refused(refused) => SlpAppended { refused, end: 0 },
+    }
+}
+
+pub fn closed_numbers(c: Closed) -> SlpClosed
+    ensures { λ r. ⌜ r ≡ closedAs c ⌝ }
+{
+    match c {
+        Closed::At { events, end } => SlpClosed {
+            refused: 0,
+            events,
+            end,
+        },
+        Closed::Refused(refused) => SlpClosed {
+            refused,
+            events: 0,
+            end: 0,
+        },
     }
 }

@@ -1,5 +1,5 @@
 // Frames appended to a lent output at a place of it: a run of them, or one.
 pub mod appended;
 mod length;
-mod place;
+pub mod place;
 pub mod run;

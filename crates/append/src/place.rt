@@ -15,7 +15,7 @@ use game::frames::Frames;
 use players::slots::slots_of;
 
 // Whether len bytes from a place on go beyond an output of `room` bytes; the place may be beyond it itself.
-fn is_short(room: usize, place: usize, len: usize) -> bool
+pub fn is_short(room: usize, place: usize, len: usize) -> bool
     ensures { λ r. ⌜ r ≡ ltb room (place + len) ⌝ }
 {
     if room < place {

@@ -46,26 +46,32 @@ left-file zero out f e = λ i. splice out 0 f
 left-file (suc k) out f e = absurd (omega arith)
 
 module _ {g : Game} {s : Stores} {out out′ : List ℕ} {n : ℕ} (o : Outcome g s out (File n) out′) where
-  none-applies : (refusal g s (length out) ≡ 0) × (n ≡ length (file g s))
+  pub none-applies : (refusal g s (length out) ≡ 0) × (n ≡ length (file g s))
   none-applies = answered-file (refusal g s (length out)) n (length (file g s)) (o .answer-is)
 
   pub accepted : Passed g s
   accepted = not-refused g s (length out) (none-applies .0)
 
+  pub none-judged : lowest (judged g s) ≡ 0
+  unfolding refusal
+  none-judged = lowest-first (judged g s) _ (none-applies .0)
+
   -- 12 does not apply: there is room
-  room : length (file g s) ≤ length out
+  pub room : length (file g s) ≤ length out
   unfolding refusal
   room =
       let e = none-applies .0 in
-      let last = lowest-after (judged g s) (refuse 12 (ltb (length out) (length (file g s))) ∷ []) (numbered-eleven g s) (lowest-first (judged g s) _ e) in
+      let last = lowest-after (judged g s) (refuse 12 (ltb (length out) (length (file g s))) ∷ []) (numbered-eleven g s) none-judged in
       ltb-false (length out) (length (file g s)) (passed 11 _ _ (sym last ∙ e) .0)
+
+  pub left-is : out′ ≡ splice out 0 (file g s)
+  left-is = o .out-is ∙ left-file (refusal g s (length out)) out (file g s) (none-applies .0)
 
   -- the first n bytes of the output are the file
   pub written-file : take n out′ ≡ file g s
   written-file =
-      let (e, m) = none-applies in
-      ap (λ (k : ℕ). take k out′) m
-      ∙ ap (take (length (file g s))) (o .out-is ∙ left-file (refusal g s (length out)) out (file g s) e ∙ splice-is out 0 (file g s) (omega (arith, room)))
+      ap (λ (k : ℕ). take k out′) (none-applies .1)
+      ∙ ap (take (length (file g s))) (left-is ∙ splice-is out 0 (file g s) (omega (arith, room)))
       ∙ take-append-seam (file g s) _
 
   -- its length field

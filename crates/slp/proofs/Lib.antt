@@ -1,3 +1,4 @@
 pub mod Finals
 pub mod Laws
 pub mod Only
+pub mod Live

@@ -1,3 +1,4 @@
 pub mod Columns
 pub mod Finals
 pub mod Outcomes
+pub mod Live

@@ -7,6 +7,7 @@ pub mod mask;
 pub mod metadata;
 pub mod opener;
 pub mod reader;
+pub mod recorder;
 pub mod reserve;
 pub mod runs;
 pub mod store_columns;

@@ -7,6 +7,7 @@ use crate::{
 	back,
 	counts::Counts,
 	finals,
+	live,
 	original::{self, run},
 	rows, runs,
 };
@@ -70,6 +71,7 @@ fn check_file(case: &Case, game: &Game, counts: &mut Counts) -> Option<String> {
 		.or_else(|| check_sound(case, &theirs))
 		.or_else(|| check_room(case, theirs.len()))
 		.or_else(|| check_runs(case, &theirs, counts.games))
+		.or_else(|| live::check(case, &theirs, counts))
 		.or_else(|| check_cleared(case, &theirs))
 }
 

@@ -13,6 +13,8 @@ pub struct Counts {
 	pub refused_masks: usize,
 	pub rows: usize,
 	pub run_rows: usize,
+	/// runs of the games that were recorded live
+	pub recorded_runs: usize,
 	/// games that came back as they were generated, and those that were made to
 	pub back_as_they_are: usize,
 	pub back_made: usize,

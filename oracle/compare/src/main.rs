@@ -15,6 +15,7 @@ mod check;
 mod counts;
 mod fields;
 mod finals;
+mod live;
 mod maps;
 mod original;
 mod readers;
@@ -143,10 +144,11 @@ fn summary_back(c: &Counts) {
 fn summary(c: &Counts) -> Result<(), String> {
 	summary_back(c);
 	println!(
-		"{} games: {} files ({} bytes), {} of final frames ({} rows dropped), {} masks ({} refused), {} rows, {} rows of runs, {} games read back, {} differences",
+		"{} games: {} files ({} bytes), recorded live in {} runs too, {} of final frames ({} rows dropped), {} masks ({} refused), {} rows, {} rows of runs, {} games read back, {} differences",
 		c.games,
 		c.files,
 		c.bytes,
+		c.recorded_runs,
 		c.final_files,
 		c.dropped,
 		c.masks,

@@ -1,9 +1,11 @@
-//! Records a match live. The frames that were finished since the last call are lent as a small game of their own, and their events are appended to what is
-//! recorded so far; at the end the record is compared with the file of the whole match.
+//! Records a match live, to a file: the head before its first frame, runs of frames as they are finished, the end, and the length last. Each step is on the
+//! disk before the next one begins, so that a recorder that dies leaves a replay which can be read as far as it got.
 //!
-//!     cargo run --example record_live
+//!     cargo run --example record_live match.slp
 
-use slp::{columns, Counts, Family, Game, Optional, PortColumn, Stores, Version};
+use std::{fs::File, io::Write, os::unix::fs::FileExt};
+
+use slp::{columns, Counts, End, Family, Game, Map, Optional, PortColumn, Stores, Value, Version};
 
 const FRAMES: usize = 60;
 const RUN: usize = 7;
@@ -42,10 +44,12 @@ impl Part {
 		game.frames.ports[0] = PortColumn { port: 0, ..Default::default() };
 		game.frames.port_count = 1;
 		(game.start.is_pal, game.start.is_frozen_ps) = (given, given);
+		game.end = End { given: 1, method: 2, initiator: 255, ..Default::default() };
+		game.metadata_given = 1;
 		Self { game, ids, starts: frames.map(|frame| 1000 + frame as u32).collect(), pres, posts, items, item_offsets }
 	}
 
-	fn stores(&self) -> Stores<'_> {
+	fn stores<'a>(&'a self, metadata: &'a [u8]) -> Stores<'a> {
 		Stores {
 			ids: &self.ids,
 			starts: &self.starts,
@@ -54,39 +58,58 @@ impl Part {
 			items: &self.items,
 			item_offsets: &self.item_offsets,
 			template_block: &[0; 418],
+			metadata,
 			..Default::default()
 		}
 	}
-
-	fn write(&self, out: &mut [u8]) -> Result<usize, u8> {
-		slp::write(&self.game, &self.stores(), out)
-	}
 }
 
-fn record() -> Result<bool, u8> {
-	let (mut live, mut file) = (vec![0; 1 << 16], vec![0; 1 << 16]);
-	// the head: the file of the match before its first frame, without the brace at its end
-	let head = Part::played(0, 0).write(&mut live)? - 1;
-	let (mut place, mut done, mut runs) = (head, 0, 0);
+/// Puts bytes at the end of the file; they are on the disk when it returns.
+fn put(file: &mut File, bytes: &[u8]) -> std::io::Result<()> {
+	file.write_all(bytes)?;
+	file.sync_all()
+}
+
+/// A refusal as an error.
+fn words(number: u8) -> std::io::Error {
+	std::io::Error::other(slp::refusal_words(number))
+}
+
+/// The whole recording; its bytes.
+fn record(file: &mut File, metadata: &[u8]) -> std::io::Result<usize> {
+	let mut buffer = vec![0; 1 << 16];
+	let part = Part::played(0, 0);
+	let head = slp::write_head(&part.game, &part.stores(metadata), &mut buffer).map_err(words)?;
+	put(file, &buffer[..head])?;
+	let (mut events, mut done) = (head, 0);
 	while done < FRAMES {
 		let n = RUN.min(FRAMES - done);
 		let part = Part::played(done, n);
-		place = slp::write_frames(&part.game.frames, &part.stores(), &mut live, place, 0..n)?;
-		(done, runs) = (done + n, runs + 1);
+		let run = slp::write_frames(&part.game.frames, &part.stores(metadata), &mut buffer, 0, 0..n).map_err(words)?;
+		put(file, &buffer[..run])?;
+		(events, done) = (events + run, done + n);
 	}
-	println!("recorded {FRAMES} frames in {runs} runs: {} bytes of events", place - head);
-	// the match is over: the length of the event data, and the brace
-	live[11..15].copy_from_slice(&(place as u32 - 15).to_be_bytes());
-	live[place] = 0x7d;
-	let len = Part::played(0, FRAMES).write(&mut file)?;
-	let same = len == place + 1 && live[..len] == file[..len];
-	println!("the file of the whole match: {len} bytes, {}", if same { "the same" } else { "others" });
-	Ok(same)
+	let end = slp::write_end(&part.game, &part.stores(metadata), &mut buffer, 0).map_err(words)?;
+	put(file, &buffer[..end.end])?;
+	file.write_all_at(&slp::length_field(events + end.events - 15).map_err(words)?, 11)?;
+	file.sync_all()?;
+	Ok(events + end.end)
 }
 
-fn main() {
-	match record() {
-		Ok(same) => std::process::exit(i32::from(!same)),
-		Err(number) => println!("refused {number}"),
-	}
+fn main() -> std::io::Result<()> {
+	let Some(path) = std::env::args().nth(1) else {
+		eprintln!("usage: record_live REPLAY");
+		std::process::exit(2)
+	};
+	let last = Map(vec![(b"lastFrame".to_vec(), Value::Number(-123 + FRAMES as i32 - 1))]);
+	let mut body = [0; 64];
+	let metadata = slp::write_map(&last, &mut body).map(|n| &body[..n]).map_err(words)?;
+	let len = record(&mut File::create(&path)?, metadata)?;
+	println!("recorded {FRAMES} frames, {RUN} a run: {len} bytes");
+	// the file of the whole match at once
+	let (part, mut whole) = (Part::played(0, FRAMES), vec![0; 1 << 16]);
+	let all = slp::write(&part.game, &part.stores(metadata), &mut whole).map_err(words)?;
+	let same = std::fs::read(path)? == whole[..all];
+	println!("the file of the whole match: {all} bytes, {}", if same { "the same" } else { "others" });
+	std::process::exit(i32::from(!same))
 }

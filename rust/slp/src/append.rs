@@ -26,7 +26,7 @@ pub fn write_frame(frames: &Frames, stores: &Stores, out: &mut [u8], place: usiz
 	end_of(appended)
 }
 
-fn end_of(appended: Appended) -> Result<usize, u8> {
+pub(crate) fn end_of(appended: Appended) -> Result<usize, u8> {
 	match appended.refused {
 		0 => Ok(appended.end),
 		number => Err(number),

@@ -44,6 +44,7 @@ pub mod rows;
 mod write;
 
 mod check;
+mod live;
 mod read;
 
 pub use append::{write_frame, write_frames};
@@ -52,6 +53,7 @@ pub use columns::Family;
 pub use final_frames::write_final;
 pub use game::*;
 pub use lengths::{Lengths, Places, Tail};
+pub use live::{length_field, write_end, write_head, Closed};
 pub use masks::{rollbacks, scratch_len, Rollbacks};
 pub use metadata::{read_entries, read_map, write_entries, write_map, BadBody, Entries, Map, Value, MAX_BODY};
 pub use plan::Plan;

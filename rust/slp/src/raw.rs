@@ -1,7 +1,7 @@
 //! The calls of libslp.a as slp.h declares them: a slice is a pointer and a count of elements.
 
 use crate::{
-	game::{Frames, Game, Version},
+	game::{End, Frames, Game, Start, Version},
 	lengths::{Lengths, Places},
 	plan::Plan,
 	records,
@@ -51,6 +51,19 @@ pub struct Reserved {
 pub struct Appended {
 	pub refused: u8,
 	pub end: usize,
+}
+
+#[repr(C)]
+pub struct Closed {
+	pub refused: u8,
+	pub events: usize,
+	pub end: usize,
+}
+
+#[repr(C)]
+pub struct Field {
+	pub refused: u8,
+	pub bytes: [u8; 4],
 }
 
 #[repr(C)]
@@ -153,6 +166,33 @@ extern "C" {
 	) -> Opened;
 
 	pub fn slp_room(plan: Plan) -> Reserved;
+
+	pub fn slp_write_head(
+		out: *mut u8,
+		out_len: usize,
+		version: Version,
+		start: Start,
+		codes_given: u8,
+		actual_size: u32,
+		template_block: *const u8,
+		template_len: usize,
+		codes: *const u8,
+		codes_len: usize,
+	) -> Appended;
+
+	pub fn slp_write_end(
+		out: *mut u8,
+		out_len: usize,
+		place: usize,
+		version: Version,
+		end: End,
+		double_end: u8,
+		metadata_given: u8,
+		metadata: *const u8,
+		metadata_len: usize,
+	) -> Closed;
+
+	pub fn slp_length_field(n: usize) -> Field;
 
 	pub fn slp_write_map(
 		out: *mut u8,

@@ -35,6 +35,12 @@ typedef struct {
 } model_kept;
 model_kept model_final(const input *in);
 void model_free_kept(model_kept *k);
+/* The head of a recording, with a length of zero; its refusals 1, 2, 8, 9, 10 and 12 into `room` bytes, or 0. */
+model_file model_head(const input *in);
+unsigned model_head_refusal(const input *in, size_t room);
+/* The end of a recording: its ends, up to data_end, and its tail; its refusals 1, 2, 11 and 12 at a place of `room` bytes, or 0. */
+model_file model_end(const input *in);
+unsigned model_end_refusal(const input *in, size_t room, size_t place);
 void model_free(model_file *f);
 /* The room of a plan. */
 slp_reserved model_room(const slp_plan *p);

@@ -10,6 +10,8 @@ _Static_assert(sizeof(slp_step) == 48 && offsetof(slp_step, offset) == 8 && offs
 _Static_assert(sizeof(slp_walked) == 40 && offsetof(slp_walked, offset) == 8 && offsetof(slp_walked, place) == 32, "slp_walked");
 _Static_assert(sizeof(slp_written) == 16 && offsetof(slp_written, len) == 8, "slp_written");
 _Static_assert(sizeof(slp_appended) == 16 && offsetof(slp_appended, end) == 8, "slp_appended");
+_Static_assert(sizeof(slp_closed) == 24 && offsetof(slp_closed, events) == 8 && offsetof(slp_closed, end) == 16, "slp_closed");
+_Static_assert(sizeof(slp_field) == 5 && offsetof(slp_field, bytes) == 1, "slp_field");
 
 _Static_assert(sizeof(slp_entry) == 20 && offsetof(slp_entry, value) == 12 && SLP_CELLS(3) == 15, "slp_entry");
 _Static_assert(sizeof(slp_map_read) == 32 && offsetof(slp_map_read, place) == 8 && offsetof(slp_map_read, entries) == 24, "slp_map_read");

@@ -199,6 +199,44 @@ slp_appended guarded_run(const input *in, uint8_t *out, size_t out_len, size_t p
 	return r;
 }
 
+slp_appended guarded_head(const input *in, uint8_t *out, size_t out_len)
+{
+	input lent = *in;
+	loan loans[LOANS];
+	lend_input(&lent, loans);
+	loan o = lend(out, out_len, 1);
+	slp_appended r = slp_write_game_head(o.data, out_len, &lent.game, lent.block, lent.codes);
+	take_back(loans);
+	CHECK(memcmp(&lent.game, &in->game, sizeof lent.game) == 0);
+	CHECK(r.refused <= 2 || (r.refused >= 8 && r.refused <= 10) || r.refused == 12);
+	CHECK(r.refused ? r.end == 0 : r.end <= out_len);
+	CHECK(kept(&o, r.refused ? 0 : r.end));
+	if (out_len)
+		memcpy(out, o.base + o.front, out_len);
+	give_back(&o);
+	return r;
+}
+
+slp_closed guarded_end(const input *in, uint8_t *out, size_t out_len, size_t place)
+{
+	input lent = *in;
+	loan loans[LOANS];
+	lend_input(&lent, loans);
+	loan o = lend(out, out_len, 1);
+	slp_closed r = slp_write_game_end(o.data, out_len, place, &lent.game, lent.metadata);
+	take_back(loans);
+	CHECK(memcmp(&lent.game, &in->game, sizeof lent.game) == 0);
+	CHECK(r.refused <= 2 || r.refused == 11 || r.refused == 12);
+	CHECK(r.refused ? r.end == 0 && r.events == 0 : r.events >= place && r.events < r.end && r.end <= out_len);
+	CHECK(kept(&o, r.refused ? 0 : r.end));
+	/* nothing before the place either */
+	CHECK(r.refused || place == 0 || memcmp(o.base + o.front, out, place) == 0);
+	if (out_len)
+		memcpy(out, o.base + o.front, out_len);
+	give_back(&o);
+	return r;
+}
+
 uint8_t guarded_rollbacks(const uint32_t *ids, size_t ids_len, uint8_t keep, uint8_t *mask, size_t mask_len, uint8_t *scratch,
                           size_t scratch_len)
 {

@@ -45,6 +45,9 @@ slp_written guarded_final(const input *in, uint8_t *out, size_t out_len, uint8_t
 /* The run of frames from a up to b; with b at ONE_FRAME, frame a by the call for one frame. */
 #define ONE_FRAME (SIZE_MAX - 1)
 slp_appended guarded_run(const input *in, uint8_t *out, size_t out_len, size_t place, size_t a, size_t b);
+/* The head of a recording, and its end at a place. */
+slp_appended guarded_head(const input *in, uint8_t *out, size_t out_len);
+slp_closed guarded_end(const input *in, uint8_t *out, size_t out_len, size_t place);
 uint8_t guarded_rollbacks(const uint32_t *ids, size_t ids_len, uint8_t keep, uint8_t *mask, size_t mask_len, uint8_t *scratch,
                           size_t scratch_len);
 /* Over lent copies of the stores alone: `family` is SLP_FAMILY_.. or any number. */
