@@ -108,6 +108,9 @@ static void call_check(void) { kept = 1 + slp_check(file, file_len).offset; }
 static void call_measure(void) { kept = slp_measure(file, file_len).places.block_at; }
 static void call_read(void) { kept = slp_read_game(file, file_len, &space).places.block_at; }
 static void call_first_place(void) { kept = slp_first_place(file, file_len); }
+static void call_write_index(void) { kept = 1u + slp_write_index(file, file_len, out, sizeof out).len; }
+static void call_accepts_index(void) { kept = slp_accepts_index(file, file_len, zeros, 9).refused; }
+static void call_find_frame(void) { kept = slp_find_frame(zeros, 9, 0).refused; }
 
 /* A map with eight others inside each other, as deep as it may be. */
 enum { DEEP = 8 };
@@ -143,6 +146,9 @@ static const struct {
 	{ "slp_check", call_check, 2900 },
 	{ "slp_measure", call_measure, 4600 },
 	{ "slp_read", call_read, 9700 },
+	{ "slp_write_index", call_write_index, 2800 },
+	{ "slp_accepts_index", call_accepts_index, 2800 },
+	{ "slp_find_frame", call_find_frame, 256 },
 	{ "slp_write_map", call_write_map, 1900 },
 	{ "slp_read_map", call_read_map, 1800 },
 	{ "slp_rollbacks", call_rollbacks, 256 },

@@ -25,7 +25,7 @@ enum {
 	/* version above 3.18.0 */
 	SLP_VERSION_TOO_NEW = 1,
 	/* a count exceeds its maximum: frames 1,048,576; items 4,194,304; rows of each stage family 1,048,576; padded codes 16,777,216
-	 * bytes; metadata 65,535; length field: event data over 4,294,967,295 bytes */
+	 * bytes; metadata 65,535; length field: event data over 4,294,967,295 bytes; index: also an offset over 32 bits */
 	SLP_TOO_MANY = 2,
 	/* a cell store's length is not columns of this version times rows (times slots) */
 	SLP_BAD_STORE = 3,
@@ -76,7 +76,15 @@ enum {
 	/* metadata map: a key twice in one map */
 	SLP_REPEATED_KEY = 22,
 	/* metadata map: entries that are no map; a body that the writer cannot give; check: a tail that is not proper */
-	SLP_BAD_BODY = 23
+	SLP_BAD_BODY = 23,
+	/* index: the first event is no GameStart of at least 4 bytes, the version is below 2.2, or a FrameStart has under 4 bytes */
+	SLP_NO_INDEX = 24,
+	/* index: wrong mark, version or length */
+	SLP_BAD_INDEX = 25,
+	/* index: it is another replay's */
+	SLP_OTHER_REPLAY = 26,
+	/* index: no row has the id */
+	SLP_NO_SUCH_ID = 27
 };
 
 /* ---- maxima */
@@ -178,6 +186,55 @@ typedef struct {
  *     else printf("sound\n");
  */
 slp_checked slp_check(const uint8_t *file, size_t file_len);
+
+/* ======== the index of a replay ========
+ *
+ * A file beside the replay, to jump to a frame without a walk: `SPX`, version 1 in two bytes, how many frames there are in four, and for each frame,
+ * in file order, its id and the offset of its FrameStart's code byte, four bytes each, all big-endian. A frame of a cut replay counts once its
+ * FrameStart is whole. Replays from 2.2 on have an index, those above 3.18.0 too. */
+
+/* The bytes of an index of so many frames. */
+#define SLP_INDEX_LEN(frames) (9 + 8 * (size_t)(frames))
+
+typedef struct {
+	uint8_t refused;   /* 0, or 14 to 17, then 24, then 2, then 12 */
+	size_t offset;     /* of 14 to 17 the file offset that the refusal names; else 0 */
+	size_t len;        /* how many bytes the index has: said with 12 too; 0 with every other refusal */
+} slp_index_written;
+
+/* Writes the index of a replay, whole or cut. Bytes past it stay. With an output of no bytes the call measures: it is refused 12, and says `len`.
+ *
+ *     slp_index_written need = slp_write_index(file, len, NULL, 0);    // 12, if there is an index
+ *     uint8_t *index = malloc(need.len);
+ *     slp_index_written w = slp_write_index(file, len, index, need.len);
+ *     if (w.refused) printf("refused %u at %zu\n", w.refused, w.offset);
+ *     else printf("%zu bytes for %zu frames\n", w.len, (w.len - 9) / 8);
+ */
+slp_index_written slp_write_index(const uint8_t *file, size_t file_len, uint8_t *out, size_t out_len);
+
+typedef struct {
+	uint8_t refused;   /* 0: it is the replay's; or 14 to 17, 24, 2 as of slp_write_index, then 25, then 26 */
+	size_t offset;     /* of 14 to 17 the file offset that the refusal names; else 0 */
+} slp_index_accepted;
+
+/* Whether an index is a replay's: accepted exactly where it is, byte for byte, what slp_write_index gives of it. */
+slp_index_accepted slp_accepts_index(const uint8_t *file, size_t file_len, const uint8_t *index, size_t index_len);
+
+typedef struct {
+	uint8_t refused;   /* 0, or 25, then 27; on a refusal all else is 0 */
+	size_t row;        /* the frame, counted from 0 in file order */
+	uint32_t offset;   /* where its FrameStart stands in the replay */
+	int32_t id;
+} slp_moment;
+
+/* The last row of an id: after a rollback, the frame that counts. No replay is read. Through an index that slp_accepts_index takes it is what a walk
+ * over the replay's events finds.
+ *
+ *     slp_moment m = slp_find_frame(index, index_len, 0);
+ *     if (m.refused) printf("refused %u\n", m.refused);
+ *     else printf("row %zu, byte %u\n", m.row, m.offset);
+ */
+slp_moment slp_find_frame(const uint8_t *index, size_t index_len, int32_t id);
 
 /* ======== rollback masks ======== */
 

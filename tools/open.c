@@ -1,11 +1,10 @@
-/* A replay as a game with its columns: what resave and table share. */
+/* A replay as a game with its columns: what commands that read more than events share. */
 #include <stdlib.h>
 #include <string.h>
 
 #include "tool.h"
 
-/* Why a replay is not read into columns: 14 to 17 have a place. Of one that is cut, how much of it there is. */
-static void complain_unread(const char *name, const content *c, unsigned number, size_t offset)
+void complain_unread(const char *name, const content *c, unsigned number, size_t offset)
 {
 	slp_walked w = slp_walk(c->bytes, c->len);
 	if (w.refused != SLP_NOT_A_REPLAY)

@@ -1,5 +1,6 @@
-/* slp: walks Slippi replays, checks them, lists their events, shows their metadata and frames, writes them again, whole or their final frames only, writes a small
- * one, says how much room to reserve. */
+/* slp: walks Slippi replays, checks them, lists their events, shows their metadata and frames, finds a frame, writes them again, whole or their final frames only, writes a small
+ * one, says how much
+ * room to reserve. */
 #include <errno.h>
 #include <stdio.h>
 #include <string.h>
@@ -16,6 +17,10 @@ static const char HELP[] =
 	"  slp events FILE     how many events of each code a replay has, and their bytes\n"
 	"  slp meta FILE       the metadata of a replay: its map, an entry a line, maps inside it further in\n"
 	"  slp table FILE      the frames of a replay as CSV: a line for each frame and player who is in it\n"
+	"  slp index FILE..    writes FILE.spx beside each replay, which says where its frames stand; it is never\n"
+	"                      written over another file\n"
+	"  slp find FILE ID    the last frame of an id: its row, offset and time; through FILE.spx where that is the\n"
+	"                      replay's index, else by a walk, which is said on standard error\n"
 	"  slp resave IN OUT   reads a replay into columns and writes it again; OUT must not exist yet\n"
 	"  slp final IN OUT    the same of the final frames only: of each frame id the last row; says how many rows\n"
 	"                      were dropped\n"
@@ -46,6 +51,9 @@ static const char HELP[] =
 	"EVENTS counts the whole events after the table of payload sizes, STRAY the bytes after the last of\n"
 	"them; whole means that all declared bytes are there. Reasons in words go to standard error. A length\n"
 	"of zero was never filled in: such a replay is read to its end, and is cut.\n"
+	"\n"
+	"A row of find is counted from 0 in file order; the offset is that of the frame's first event; the time is\n"
+	"that of the id, 60 frames a second from frame 0 on, as minutes:seconds.\n"
 	"\n"
 	"A table has the frame's id, the port (0 to 3), 1 for a follower or 0, and the columns of Pre and Post\n"
 	"that the version has; floats are shown as the shortest number that is the same float. resave says whether\n"
@@ -102,6 +110,12 @@ static int parse_option(const char *option, arguments *a)
 	return WELL;
 }
 
+/* The id of a frame may have a sign, and no option begins with a digit. */
+static int is_number(const char *word)
+{
+	return *word >= '0' && *word <= '9';
+}
+
 /* Sorts the options out; what stays are operands, in their order. */
 static int parse(int argc, char **argv, arguments *a)
 {
@@ -109,7 +123,7 @@ static int parse(int argc, char **argv, arguments *a)
 	a->operands = argv + 1;
 	for (int i = 1; i < argc; i++) {
 		char *word = argv[i];
-		if (only_operands || word[0] != '-' || word[1] == 0)
+		if (only_operands || word[0] != '-' || word[1] == 0 || is_number(word + 1))
 			a->operands[a->count++] = word;
 		else if (strcmp(word, "--") == 0)
 			only_operands = 1;
@@ -129,6 +143,23 @@ static int print_help(void)
 {
 	fputs(HELP, stdout);
 	return WELL;
+}
+
+/* An index stands beside its replay, so the replay has a name. */
+static int run_index(char **files, int count, int progress)
+{
+	for (int i = 0; i < count; i++)
+		if (strcmp(files[i], "-") == 0)
+			return wrong_usage("index needs files with a name, not", "-");
+	return count ? index_files(files, count, progress) : wrong_usage("index needs a file", "");
+}
+
+static int run_find(char **files, int count, int progress)
+{
+	int32_t id;
+	if (count != 2)
+		return wrong_usage("find needs a file and a frame's id", "");
+	return parse_id(files[1], &id) == WELL ? find_frame(files[0], id, progress) : wrong_usage("not a frame's id:", files[1]);
 }
 
 static int run(const arguments *a)
@@ -162,6 +193,10 @@ static int run(const arguments *a)
 		return count == 1 ? show_metadata(files[0]) : wrong_usage("meta needs one file", "");
 	if (strcmp(command, "table") == 0)
 		return count == 1 ? show_table(files[0], a->final, a->progress) : wrong_usage("table needs one file", "");
+	if (strcmp(command, "index") == 0)
+		return run_index(files, count, a->progress);
+	if (strcmp(command, "find") == 0)
+		return run_find(files, count, a->progress);
 	if (strcmp(command, "resave") == 0)
 		return count == 2 ? resave(files[0], files[1], a->progress) : wrong_usage("resave needs two files", "");
 	if (strcmp(command, "final") == 0)

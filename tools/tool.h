@@ -63,6 +63,17 @@ typedef struct {
 /* WELL, or FAILED after words on standard error. */
 int open_replay(const char *path, int progress, replay *r);
 void close_replay(replay *r);
+/* Why a replay is refused: 14 to 17 have a place. Of one that is cut, how much of it there is. */
+void complain_unread(const char *name, const content *c, unsigned number, size_t offset);
+
+/* ---- index.c */
+
+/* FILE.spx, in memory to be freed, or NULL. */
+char *index_name(const char *path);
+/* All of an index, in memory to be freed. 0, or an errno. */
+int load_index(const char *path, content *c);
+/* The index of a replay by a walk, in memory to be freed: WELL, or FAILED after words on standard error. */
+int work_out_index(const char *name, const content *file, content *index);
 
 /* ---- resave.c: what writes a replay's columns again */
 
@@ -95,6 +106,12 @@ int show_table(const char *path, int final, int progress);
 int resave(const char *in, const char *out, int progress);
 int write_final_frames(const char *in, const char *out, int progress);
 int write_demo(const char *path);
+int index_files(char **paths, int count, int progress);
+int find_frame(const char *path, int32_t id, int progress);
+
+/* ---- find.c: a whole number of 32 bits with its sign; WELL or FAILED */
+
+int parse_id(const char *text, int32_t *id);
 
 /* ---- room.c */
 

@@ -29,6 +29,10 @@ static const char *const REFUSALS[] = {
 	[SLP_LONG_TEXT] = "a key or text of over 255 bytes in the metadata",
 	[SLP_REPEATED_KEY] = "a key twice in one map of the metadata",
 	[SLP_BAD_BODY] = "metadata that is no map of texts, numbers and maps",
+	[SLP_NO_INDEX] = "a replay without an index: below 2.2, its first event no GameStart, or a FrameStart without an id",
+	[SLP_BAD_INDEX] = "not an index: its mark, version or length is wrong",
+	[SLP_OTHER_REPLAY] = "the index of another replay",
+	[SLP_NO_SUCH_ID] = "no frame has this id",
 };
 
 const char *refusal_words(unsigned number)

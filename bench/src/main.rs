@@ -5,9 +5,11 @@
 //!     bench rows       the same of rows: from 5,000 to 160,000 frames; and `bench rows count`
 //!     bench reads      the same of reading back: from 65,536 to 1,048,576 frames; and `bench reads count`
 //!     bench finals     the same of final frames only: with and without rollbacks, to 1,048,576 rows; and `bench finals count`
+//!     bench index      the same of an index beside the walk: a match of eight minutes, and up to 1,048,576 frames; and `bench index count`
 //!     bench once WHAT GAME REPEATS    what `count` runs
 
 mod finals;
+mod indexes;
 mod plain;
 mod reads;
 mod rows;
@@ -31,9 +33,11 @@ fn main() {
 		["reads", "count"] => read_counts(),
 		["finals"] => final_times(),
 		["finals", "count"] => final_counts(),
+		["index"] => index_times(),
+		["index", "count"] => index_counts(),
 		["once", what, game, repeats] => once(what, number(game), number(repeats)),
 		_ => {
-			eprintln!("usage: bench [rows | reads | finals] [count]");
+			eprintln!("usage: bench [rows | reads | finals | index] [count]");
 			std::process::exit(2)
 		}
 	}
@@ -126,6 +130,9 @@ fn once(what: &str, game: usize, repeats: usize) {
 	} else if finals::WHAT.contains(&what) {
 		let mut work = finals::Finals::new(finals::GAMES[game]);
 		(0..repeats).for_each(|_| work.run(what));
+	} else if indexes::WHAT.contains(&what) {
+		let mut work = indexes::Indexes::new(indexes::SHAPES[game]);
+		(0..repeats).for_each(|_| work.run(what));
 	} else {
 		let mut work = Work::new(SHAPES[game]);
 		(0..repeats).for_each(|_| work.run(what));
@@ -191,6 +198,26 @@ fn final_counts() {
 		for what in finals::WHAT {
 			let each = (collected(what, i, 3) - collected(what, i, 1)) / 2;
 			println!("{what:<34} {each:>14} instructions {:>12.1} a row", each as f64 / game.rows as f64);
+		}
+	}
+}
+
+fn index_times() {
+	for &shape in indexes::SHAPES {
+		let mut work = indexes::Indexes::new(shape);
+		println!("\n{}", shape.name);
+		for what in indexes::WHAT {
+			println!("{what:<34} {:>12.1} µs", best(|| work.run(what)) / 1e3);
+		}
+	}
+}
+
+fn index_counts() {
+	for (i, &shape) in indexes::SHAPES.iter().enumerate() {
+		println!("\n{}", shape.name);
+		for what in indexes::WHAT {
+			let each = (collected(what, i, 3) - collected(what, i, 1)) / 2;
+			println!("{what:<34} {each:>14} instructions {:>12.1} a frame", each as f64 / shape.frames as f64);
 		}
 	}
 }

@@ -33,7 +33,7 @@ pub struct Reads {
 
 impl Reads {
 	pub fn new(shape: Shape) -> Self {
-		let case = longer(shaped::game(Shape { frames: BASE, ..shape }), shape.frames);
+		let case = longer(shape);
 		let room = slp::room(&slp::Plan::of(&case.game, &case.stores())).unwrap();
 		let mut file = vec![0; room];
 		let len = slp::write(&case.game, &case.stores(), &mut file).unwrap();
@@ -54,8 +54,9 @@ impl Reads {
 	}
 }
 
-/// A game of more frames, a multiple of its own: each column again and again.
-pub fn longer(mut case: Case, frames: usize) -> Case {
+/// A game of more frames than are made, a multiple of them: each column again and again.
+pub fn longer(shape: Shape) -> Case {
+	let (mut case, frames) = (shaped::game(Shape { frames: BASE, ..shape }), shape.frames);
 	for store in [&mut case.starts, &mut case.pres, &mut case.posts, &mut case.ends] {
 		*store = store.chunks(BASE).flat_map(|column| column.repeat(frames / BASE)).collect();
 	}

@@ -14,3 +14,8 @@ head -c 900 "$bin/game.slp" >"$bin/cut.slp"
 "$bin/open_and_save" "$bin/game.slp" "$bin/again.slp"
 cmp "$bin/game.slp" "$bin/again.slp"
 "$bin/open_and_save" "$bin/cut.slp" "$bin/again.slp" || echo 'not saved'
+"$bin/jump" "$bin/game.slp" -123
+"$bin/jump" "$bin/game.slp" 0
+"$bin/jump" "$bin/cut.slp" -123
+head -c 800 "$bin/game.slp" >"$bin/cut.slp"
+"$bin/jump" "$bin/cut.slp" -123 || echo 'no index'

@@ -36,6 +36,10 @@ slp_checked real_slp_check(const uint8_t *file, size_t file_len);
 slp_measured real_slp_measure(const uint8_t *file, size_t file_len);
 slp_opened real_slp_read(const uint8_t *file, size_t file_len, SLP_SPACE_PARAMETERS);
 
+slp_index_written real_slp_write_index(const uint8_t *file, size_t file_len, uint8_t *out, size_t out_len);
+slp_index_accepted real_slp_accepts_index(const uint8_t *file, size_t file_len, const uint8_t *index, size_t index_len);
+slp_moment real_slp_find_frame(const uint8_t *index, size_t index_len, int32_t id);
+
 /* The parameters of the stores, handed on. */
 #define STORES \
 	ids, ids_len, starts, starts_len, pres, pres_len, posts, posts_len, ends, ends_len, items, items_len, fods, fods_len, whispys, \
@@ -720,4 +724,78 @@ slp_opened slp_read(const uint8_t *file, size_t file_len, SLP_SPACE_PARAMETERS)
 	if (faulty("open-body") && o.places.metadata_len)
 		o.places.metadata_at--;
 	return o;
+}
+
+slp_index_written slp_write_index(const uint8_t *file, size_t file_len, uint8_t *out, size_t out_len)
+{
+	slp_index_written w = real_slp_write_index(file, file_len, out, out_len);
+	if (faulty("index-payload") && !w.refused && w.len > 16)
+		out[16]++;
+	if (faulty("index-count") && !w.refused && w.len == 33)
+		out[8]--;
+	if (faulty("index-late") && !w.refused && w.len > 100)
+		out[97] ^= 1;
+	if (faulty("index-measured") && w.refused == SLP_SHORT_OUTPUT)
+		w.len = 0;
+	if (faulty("index-length") && w.refused == SLP_NO_INDEX)
+		w.len = 9;
+	if (faulty("index-refused") && w.refused == SLP_SHORT_OUTPUT && out_len > 5)
+		out[4] ^= 1;
+	if (faulty("index-beyond") && !w.refused && w.len < out_len)
+		out[w.len] ^= 1;
+	if (faulty("index-offset"))
+		w.offset = 0;
+	if (faulty("index-old") && w.refused == SLP_NO_INDEX && file_len > 60 && file[48] == 2)
+		w.refused = SLP_SHORT_OUTPUT;
+	if (faulty("index-new") && !w.refused && file[slp_first_place(file, file_len) + 1] > 3)
+		w.refused = SLP_VERSION_TOO_NEW;
+	if (faulty("index-order") && w.refused == SLP_TOO_MANY && out_len == 0)
+		w.refused = SLP_SHORT_OUTPUT;
+	if (faulty("index-most") && w.refused == SLP_TOO_MANY)
+		w.refused = 0;
+	if (faulty("index-input") && file_len)
+		spoil(file);
+	return w;
+}
+
+slp_index_accepted slp_accepts_index(const uint8_t *file, size_t file_len, const uint8_t *index, size_t index_len)
+{
+	slp_index_accepted a = real_slp_accepts_index(file, file_len, index, index_len);
+	if (faulty("accept-longer") && a.refused == SLP_OTHER_REPLAY && index_len > 17)
+		a = real_slp_accepts_index(file, file_len, index, index_len - 8);
+	if (faulty("accept-other") && a.refused == SLP_OTHER_REPLAY && index_len > 24)
+		a.refused = 0;
+	if (faulty("accept-bad") && a.refused == SLP_BAD_INDEX)
+		a.refused = SLP_OTHER_REPLAY;
+	if (faulty("accept-order") && a.refused == SLP_NO_INDEX && index_len == 0)
+		a.refused = SLP_BAD_INDEX;
+	if (faulty("accept-offset"))
+		a.offset = 0;
+	if (faulty("accept-input") && index_len)
+		spoil(index);
+	return a;
+}
+
+/* The four bytes of an index at a place. */
+static uint32_t number_at(const uint8_t *index, size_t at)
+{
+	return (uint32_t)index[at] << 24 | (uint32_t)index[at + 1] << 16 | (uint32_t)index[at + 2] << 8 | index[at + 3];
+}
+
+slp_moment slp_find_frame(const uint8_t *index, size_t index_len, int32_t id)
+{
+	slp_moment m = real_slp_find_frame(index, index_len, id);
+	if (faulty("find-first") && !m.refused)
+		for (size_t k = m.row; k--;)
+			if (number_at(index, 9 + 8 * k) == (uint32_t)id)
+				m.row = k, m.offset = number_at(index, 13 + 8 * k);
+	if (faulty("find-row"))
+		m.row += !m.refused;
+	if (faulty("find-absent") && m.refused == SLP_NO_SUCH_ID)
+		m.id = id;
+	if (faulty("find-length") && m.refused == SLP_BAD_INDEX && index_len > 17)
+		m.refused = SLP_NO_SUCH_ID;
+	if (faulty("find-input") && index_len > 9)
+		spoil(index + 9);
+	return m;
 }

@@ -106,6 +106,39 @@ static void open_again(void)
 	open_and_save(file, w.len, out, w.len);
 }
 
+/* ---- the index */
+
+static void find_in(const uint8_t *index, size_t index_len)
+{
+	slp_moment m = slp_find_frame(index, index_len, 0);
+	if (m.refused) printf("refused %u\n", m.refused);
+	else printf("row %zu, byte %u\n", m.row, m.offset);
+}
+
+static void index_of(const uint8_t *file, size_t len)
+{
+	slp_index_written need = slp_write_index(file, len, NULL, 0);    // 12, if there is an index
+	uint8_t *index = malloc(need.len);
+	slp_index_written w = slp_write_index(file, len, index, need.len);
+	if (w.refused) printf("refused %u at %zu\n", w.refused, w.offset);
+	else printf("%zu bytes for %zu frames\n", w.len, (w.len - 9) / 8);
+	find_in(index, w.len);
+	find_in(index, w.len - 1);
+	free(index);
+}
+
+/* Two frames of id 0 at 2.2, without players. */
+static void jump(void)
+{
+	static const uint32_t cells[2];
+	slp_game game = { .frames = { .version = { 2, 2, 0 }, .counts = { .frames = 2 } }, .start = { .is_pal = { 1, 0 }, .is_frozen_ps = { 1, 0 } } };
+	slp_stores stores = { .ids = { cells, 2 }, .starts = { cells, 2 * slp_columns(game.frames.version, SLP_FAMILY_FRAME_START) } };
+	uint8_t block[420] = { 0 }, file[600];
+	slp_bytes none = { NULL, 0 }, start = { block, sizeof block };
+	slp_written w = slp_write_game(file, sizeof file, &game, &stores, start, none, none);
+	index_of(file, w.len);
+}
+
 /* ---- room */
 
 static void reserve(void)
@@ -227,6 +260,7 @@ int main(void)
 	write_and_read();
 	write_last_rows();
 	open_again();
+	jump();
 	reserve();
 	append_run();
 	record_live();

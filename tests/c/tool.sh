@@ -76,6 +76,13 @@ run table a b
 run resave
 run resave a
 run resave a b c
+run index
+run index -
+run index a -
+run find
+run find a
+run find a 1 2
+for id in x '' 1x 0x10 2147483648 -2147483649 99999999999999999999; do run find a "$id"; done
 run --progress=often walk game.slp
 
 # ---- demo
@@ -295,6 +302,46 @@ for f in unfilled tail short table twice unknown overrun signature newer order l
 run check directory
 run check away.slp flag.slp none.slp nested.slp
 guarded check game.slp twice.slp long.slp other.slp open.slp nothing.slp unknown.slp missing.slp
+
+# ---- index and find
+guarded index game.slp
+head -c 9 game.slp.spx | od -An -tx1
+wc -c <game.slp.spx
+run index game.slp
+# the last frame of an id that a rollback gave twice, ids round it, the first and the last id, ids that no frame has
+for id in -87 -88 -83 -123 -64 -63 0 2147483647 -2147483648; do run find game.slp $id; done
+guarded find game.slp -64
+run find -- game.slp -64
+from game.slp find - -64
+# without an index, with that of another replay, and with what is none: by a walk, and the same
+cp game.slp alone.slp
+run find alone.slp -64
+cp game.slp other.slp
+head -c 10000 game.slp >other-cut.slp
+run index other-cut.slp
+cp other-cut.slp.spx other.slp.spx
+guarded find other.slp -64
+run index other.slp
+printf 'SPX' >other.slp.spx
+run find other.slp -64
+rm other.slp.spx
+mkdir other.slp.spx
+run find other.slp -64
+run index other.slp
+rmdir other.slp.spx
+# a cut has the first frames; refusals with and without a place
+run find other-cut.slp -100
+run find other-cut.slp -64
+run index unfilled.slp
+run find unfilled.slp -64
+patched old.slp 48 '\002\001'
+patched new.slp 48 '\004\000'
+head -c 807 game.slp >startless.slp
+for f in old startless unknown overrun tail signature table empty missing; do run index $f.slp; run find $f.slp 0; done
+guarded index new.slp game.slp missing.slp
+cmp new.slp.spx game.slp.spx && echo 'new.slp.spx: the same'
+for f in old startless unknown missing; do [ -e $f.slp.spx ] && echo "$f.slp.spx: there"; done
+run index missing/game.slp
 
 # ---- progress
 run --progress=never walk game.slp

@@ -1,4 +1,4 @@
-// The numbers with which calls refuse, by the names of the C header where it has them. Those from 24 on are kept for calls to come.
+// The numbers with which calls refuse, by the names of the C header where it has them.
 
 // The writer, the masks and the rows.
 pub const VERSION_TOO_NEW: u8 = 1;

@@ -3,6 +3,7 @@ pub mod appender;
 pub mod checker;
 pub mod final_writer;
 pub mod frame_rows;
+pub mod index;
 pub mod mask;
 pub mod metadata;
 pub mod opener;

@@ -1,7 +1,7 @@
 //! Slippi replays, written and read: safe calls to `libslp.a`.
 //!
 //! Every call takes every input, allocates nothing ([`write_map`] and [`read_map`] do, for a [`Map`] and its entries, and [`read`] for a [`Replay`]
-//! and its columns) and answers with a refusal number ([`refusal_words`] says why) or its result. A refused call changes no byte of the slices that
+//! and its columns, and [`index`] for its bytes) and answers with a refusal number ([`refusal_words`] says why) or its result. A refused call changes no byte of the slices that
 //! are lent to it. Set `SLP_LIB_DIR` to the directory of `libslp.a` when you build.
 //!
 //! ```
@@ -45,6 +45,7 @@ mod write;
 
 mod check;
 mod live;
+mod index;
 mod read;
 
 pub use append::{write_frame, write_frames};
@@ -52,6 +53,7 @@ pub use check::check;
 pub use columns::Family;
 pub use final_frames::write_final;
 pub use game::*;
+pub use index::{accepts_index, find_frame, index, index_len, write_index, Moment};
 pub use lengths::{Lengths, Places, Tail};
 pub use live::{length_field, write_end, write_head, Closed};
 pub use masks::{rollbacks, scratch_len, Rollbacks};

@@ -96,6 +96,27 @@ pub struct Opened {
 const _: () = assert!(std::mem::size_of::<Measured>() == 336 && std::mem::size_of::<Opened>() == 1640);
 
 #[repr(C)]
+pub struct IndexWritten {
+	pub refused: u8,
+	pub offset: usize,
+	pub len: usize,
+}
+
+#[repr(C)]
+pub struct IndexAccepted {
+	pub refused: u8,
+	pub offset: usize,
+}
+
+#[repr(C)]
+pub struct Moment {
+	pub refused: u8,
+	pub row: usize,
+	pub offset: u32,
+	pub id: i32,
+}
+
+#[repr(C)]
 pub struct Answer<T> {
 	pub refused: u8,
 	pub row: T,
@@ -164,6 +185,12 @@ extern "C" {
 		codes: *mut u8,
 		codes_len: usize,
 	) -> Opened;
+
+	pub fn slp_write_index(file: *const u8, file_len: usize, out: *mut u8, out_len: usize) -> IndexWritten;
+
+	pub fn slp_accepts_index(file: *const u8, file_len: usize, index: *const u8, index_len: usize) -> IndexAccepted;
+
+	pub fn slp_find_frame(index: *const u8, index_len: usize, id: i32) -> Moment;
 
 	pub fn slp_room(plan: Plan) -> Reserved;
 

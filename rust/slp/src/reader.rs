@@ -3,7 +3,8 @@
 use crate::raw;
 
 /// A reader's refusal: 14 to 17 with the file offset that they name; from [`read`](crate::read) also 1, 2, 12 and 19, from [`check`](crate::check)
-/// 1, 19 and 23, with offset 0.
+/// 1, 19 and 23, and from the calls
+/// of an [`index`](crate::write_index) 2, 12 and 24 to 26, with offset 0.
 #[derive(Clone, Copy, Debug, PartialEq, Eq)]
 pub struct Refused {
 	pub number: u8,

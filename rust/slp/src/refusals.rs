@@ -1,7 +1,7 @@
 //! Refusals in words.
 
 /// The words of each refusal, by its number; the same as those of the tool `slp`. Numbers that no call gives have none.
-const WORDS: [&str; 24] = [
+const WORDS: [&str; 28] = [
 	"accepted",
 	"the version is above 3.18.0",
 	"a count exceeds its maximum",
@@ -26,6 +26,10 @@ const WORDS: [&str; 24] = [
 	"a key or text of over 255 bytes in the metadata",
 	"a key twice in one map of the metadata",
 	"metadata that is no map of texts, numbers and maps",
+	"a replay without an index: below 2.2, its first event no GameStart, or a FrameStart without an id",
+	"not an index: its mark, version or length is wrong",
+	"the index of another replay",
+	"no frame has this id",
 ];
 
 /// Why a call was refused with this number, in words.

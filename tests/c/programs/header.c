@@ -8,6 +8,9 @@ _Static_assert(sizeof(size_t) == 8, "64 bits");
 
 _Static_assert(sizeof(slp_step) == 48 && offsetof(slp_step, offset) == 8 && offsetof(slp_step, next) == 40, "slp_step");
 _Static_assert(sizeof(slp_walked) == 40 && offsetof(slp_walked, offset) == 8 && offsetof(slp_walked, place) == 32, "slp_walked");
+_Static_assert(sizeof(slp_index_written) == 24 && offsetof(slp_index_written, offset) == 8 && offsetof(slp_index_written, len) == 16, "slp_index_written");
+_Static_assert(sizeof(slp_index_accepted) == 16 && offsetof(slp_index_accepted, offset) == 8, "slp_index_accepted");
+_Static_assert(sizeof(slp_moment) == 24 && offsetof(slp_moment, row) == 8 && offsetof(slp_moment, offset) == 16 && offsetof(slp_moment, id) == 20, "slp_moment");
 _Static_assert(sizeof(slp_written) == 16 && offsetof(slp_written, len) == 8, "slp_written");
 _Static_assert(sizeof(slp_appended) == 16 && offsetof(slp_appended, end) == 8, "slp_appended");
 _Static_assert(sizeof(slp_closed) == 24 && offsetof(slp_closed, events) == 8 && offsetof(slp_closed, end) == 16, "slp_closed");
@@ -48,6 +51,7 @@ _Static_assert(sizeof(slp_data) == 420 && sizeof(slp_port_data) == 844 && sizeof
 _Static_assert(sizeof(slp_frame_answer) == 3744 && sizeof(slp_pre_answer) == 204 && sizeof(slp_item_answer) == 180, "answers");
 
 _Static_assert(SLP_OK == 0 && SLP_SHORT_OUTPUT == 12 && SLP_BAD_PLACE == 17 && SLP_BAD_EVENTS == 19 && SLP_TOO_DEEP == 20 && SLP_BAD_BODY == 23, "refusals");
+_Static_assert(SLP_NO_INDEX == 24 && SLP_BAD_INDEX == 25 && SLP_OTHER_REPLAY == 26 && SLP_NO_SUCH_ID == 27 && SLP_INDEX_LEN(3) == 33, "the index");
 _Static_assert(SLP_LAST_FRAME_ID - SLP_FIRST_FRAME_ID + 1 == SLP_MAX_FRAMES, "frame ids");
 _Static_assert(SLP_EVENT_MESSAGE_SPLITTER == 16 && SLP_EVENT_PAYLOADS == 53 && SLP_EVENT_STADIUM_TRANSFORMATION == 65, "events");
 

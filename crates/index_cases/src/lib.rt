@@ -1,0 +1,1 @@
+// The indexes of worked files: all of it is in `proofs`.
