@@ -3,11 +3,11 @@
 use std::hint::black_box;
 
 use games::{
-	shaped::{self, Shape},
+	shaped::{Items, Shape},
 	Case,
 };
 
-use crate::reads;
+use crate::reads::longer;
 
 /// How the ids of a game go on.
 #[derive(Clone, Copy)]
@@ -48,8 +48,8 @@ pub struct Finals {
 
 impl Finals {
 	pub fn new(game: Rows) -> Self {
-		let shape = Shape { name: game.name, version: (3, 18), frames: reads::BASE, players: 2, item_every: 0 };
-		let mut case = reads::longer(shaped::game(shape), game.rows);
+		let shape = Shape { name: game.name, version: (3, 18), frames: game.rows, players: 2, items: Items::Every(0) };
+		let mut case = longer(shape);
 		case.ids = ids(game);
 		let room = slp::room(&slp::Plan::of(&case.game, &case.stores())).unwrap();
 		Self { case, out: vec![0; room], scratch: vec![0; game.rows] }

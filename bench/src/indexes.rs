@@ -2,7 +2,7 @@
 
 use std::hint::black_box;
 
-use games::shaped::{self, Shape};
+use games::shaped::{self, Items, Shape};
 
 use crate::reads::longer;
 
@@ -10,7 +10,7 @@ use crate::reads::longer;
 const MATCH: usize = 28_900;
 
 const fn shape(name: &'static str, frames: usize, players: usize, item_every: usize) -> Shape {
-	Shape { name, version: (3, 18), frames, players, item_every }
+	Shape { name, version: (3, 18), frames, players, items: Items::Every(item_every) }
 }
 
 pub const SHAPES: &[Shape] = &[

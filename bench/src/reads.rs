@@ -4,12 +4,12 @@ use std::hint::black_box;
 
 use games::{
 	lent::Lent,
-	shaped::{self, Shape},
+	shaped::{self, Items, Shape},
 	Case,
 };
 
 const fn shape(name: &'static str, frames: usize) -> Shape {
-	Shape { name, version: (3, 18), frames, players: 2, item_every: 0 }
+	Shape { name, version: (3, 18), frames, players: 2, items: Items::Every(0) }
 }
 
 pub const SHAPES: &[Shape] = &[
@@ -23,7 +23,7 @@ pub const SHAPES: &[Shape] = &[
 pub const WHAT: &[&str] = &["reads: check", "reads: measure", "reads: read", "reads: write of the same game"];
 
 /// Cells are made of a shorter game's, again and again: valgrind would take long to make so many.
-pub const BASE: usize = 1024;
+const BASE: usize = 1024;
 
 pub struct Reads {
 	case: Case,

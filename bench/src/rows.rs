@@ -4,14 +4,14 @@ use std::hint::black_box;
 
 use games::{
 	adapt,
-	shaped::{self, Shape},
+	shaped::{self, Items, Shape},
 	Case,
 };
 use peppi::game::immutable::Game;
 use slp::{rows, Family};
 
 const fn shape(name: &'static str, frames: usize) -> Shape {
-	Shape { name, version: (3, 18), frames, players: 2, item_every: 0 }
+	Shape { name, version: (3, 18), frames, players: 2, items: Items::Every(0) }
 }
 
 pub const SHAPES: &[Shape] = &[

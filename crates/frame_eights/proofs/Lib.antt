@@ -1,4 +1,2 @@
-pub mod Across
-pub mod Leaves
-pub mod Likeness
-pub mod Teams
+pub mod Places
+pub mod Passing

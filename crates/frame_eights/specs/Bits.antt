@@ -11,4 +11,4 @@ bitAt block frames i xs = let j = block * ((frames + 7) / 8) + i / 8 in set xs j
 -- the bits of n frames from frame i on
 unfoldable pub bitsPut : ℕ → ℕ → ℕ → ℕ → List ℕ → List ℕ
 bitsPut block frames zero i xs = xs
-bitsPut block frames (suc n) i xs = bitsPut block frames n (i + 1) (bitAt block frames i xs)
+bitsPut block frames (suc n) i xs = bitAt block frames (i + n) (bitsPut block frames n i xs)

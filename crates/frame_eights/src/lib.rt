@@ -1,3 +1,3 @@
-// Eight frames at once, where they are alike: event by event, column by column.
-pub mod alike;
+// The players' stores from the events of a file: each event's cells of eight frames at once, from a table of places.
 pub mod eights;
+pub mod fill;

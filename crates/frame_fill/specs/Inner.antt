@@ -168,6 +168,17 @@ nextAfter code c n = record {
   stadiums = rowNext (eqb code 0x41) (c .stadiums) (n .stadiums);
 }
 
+-- the same of a stage's rows alone
+unfoldable pub stageAfter : ℕ → Counts → Next → Next
+stageAfter code c n = record {
+  starts = n .starts;
+  ends = n .ends;
+  items = n .items;
+  fods = rowNext (eqb code 0x3F) (c .fods) (n .fods);
+  whispys = rowNext (eqb code 0x40) (c .whispys) (n .whispys);
+  stadiums = rowNext (eqb code 0x41) (c .stadiums) (n .stadiums);
+}
+
 abbrev pub opensBy : Plan → Seen → Told → Bool
 opensBy p s t = opens (p .hasStart) (p .counts .frames) (s .opened) (t .code) (t .id)
 

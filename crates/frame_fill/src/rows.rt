@@ -3,7 +3,7 @@ ghost use mathlib.Core.Path.{_≡_};
 ghost use Prim.Native.Nat.{_≤_};
 ghost use lib.Dec.{eqb};
 ghost use lib.ListN.{drop};
-ghost use Rattle.frame_fill.specs.Inner.{Roomy, rowPut, rowNext, Long, nextAfter};
+ghost use Rattle.frame_fill.specs.Inner.{Roomy, rowPut, rowNext, Long, nextAfter, stageAfter};
 use super::seen::Next;
 use game::frames::Counts;
 
@@ -28,6 +28,58 @@ pub fn put_row(
         }
     }
     row
+}
+
+// The row of a stage's event.
+fn put_stage(
+    code: u8,
+    file: &[u8],
+    at: usize,
+    fod: &[u8],
+    whispy: &[u8],
+    stadium: &[u8],
+    c: Counts,
+    n: Next,
+    fods: &mut [u32],
+    whispys: &mut [u32],
+    stadiums: &mut [u32],
+) -> Next
+    requires { ⌜ (4 ≤ at)
+        × (Long (now file) at (eqb code 0x3F) (now fod) × Roomy (now fod) (now fods) 1 (c .fods))
+        × (Long (now file) at (eqb code 0x40) (now whispy) × Roomy (now whispy) (now whispys) 1 (c .whispys))
+        × (Long (now file) at (eqb code 0x41) (now stadium) × Roomy (now stadium) (now stadiums) 1 (c .stadiums)) ⌝ }
+    ensures { λ r. ⌜ (r ≡ stageAfter code c n)
+        × (now (fods .exit) ≡ rowPut (eqb code 0x3F) (now (fod .entry)) (drop at (now (file .entry))) (c .fods) (n .fods) (now (fods .entry)))
+        × (now (whispys .exit) ≡ rowPut (eqb code 0x40) (now (whispy .entry)) (drop at (now (file .entry))) (c .whispys) (n .whispys) (now (whispys .entry)))
+        × (now (stadiums .exit) ≡ rowPut (eqb code 0x41) (now (stadium .entry)) (drop at (now (file .entry))) (c .stadiums) (n .stadiums) (now (stadiums .entry))) ⌝ }
+{
+    let e = put_row(code == 0x3F, file, at, fod, fods, c.fods, n.fods);
+    let g = put_row(
+        code == 0x40,
+        file,
+        at,
+        whispy,
+        whispys,
+        c.whispys,
+        n.whispys,
+    );
+    let h = put_row(
+        code == 0x41,
+        file,
+        at,
+        stadium,
+        stadiums,
+        c.stadiums,
+        n.stadiums,
+    );
+    Next {
+        starts: n.starts,
+        ends: n.ends,
+        items: n.items,
+        fods: e,
+        whispys: g,
+        stadiums: h,
+    }
 }
 
 // The row of an event whose family has one row an event: its widths and its store come with its code.
@@ -65,34 +117,50 @@ pub fn put_rows(
         × (now (whispys .exit) ≡ rowPut (eqb code 0x40) (now (whispy .entry)) (drop at (now (file .entry))) (c .whispys) (n .whispys) (now (whispys .entry)))
         × (now (stadiums .exit) ≡ rowPut (eqb code 0x41) (now (stadium .entry)) (drop at (now (file .entry))) (c .stadiums) (n .stadiums) (now (stadiums .entry))) ⌝ }
 {
-    let a = put_row(code == 0x3A, file, at, start, starts, c.frames, n.starts);
-    let b = put_row(code == 0x3C, file, at, end, ends, c.frames, n.ends);
-    let d = put_row(code == 0x3B, file, at, item, items, c.items, n.items);
-    let e = put_row(code == 0x3F, file, at, fod, fods, c.fods, n.fods);
-    let g = put_row(
-        code == 0x40,
-        file,
-        at,
-        whispy,
-        whispys,
-        c.whispys,
-        n.whispys,
-    );
-    let h = put_row(
-        code == 0x41,
-        file,
-        at,
-        stadium,
-        stadiums,
-        c.stadiums,
-        n.stadiums,
-    );
-    Next {
-        starts: a,
-        ends: b,
-        items: d,
-        fods: e,
-        whispys: g,
-        stadiums: h,
+    if code == 0x3A {
+        let row = put_row(code == 0x3A, file, at, start, starts, c.frames, n.starts);
+        return Next {
+            starts: row,
+            ends: n.ends,
+            items: n.items,
+            fods: n.fods,
+            whispys: n.whispys,
+            stadiums: n.stadiums,
+        };
     }
+    if code == 0x3C {
+        let row = put_row(code == 0x3C, file, at, end, ends, c.frames, n.ends);
+        return Next {
+            starts: n.starts,
+            ends: row,
+            items: n.items,
+            fods: n.fods,
+            whispys: n.whispys,
+            stadiums: n.stadiums,
+        };
+    }
+    if code == 0x3B {
+        let row = put_row(code == 0x3B, file, at, item, items, c.items, n.items);
+        return Next {
+            starts: n.starts,
+            ends: n.ends,
+            items: row,
+            fods: n.fods,
+            whispys: n.whispys,
+            stadiums: n.stadiums,
+        };
+    }
+    put_stage(
+        code,
+        file,
+        at,
+        fod,
+        whispy,
+        stadium,
+        c,
+        n,
+        fods,
+        whispys,
+        stadiums,
+    )
 }

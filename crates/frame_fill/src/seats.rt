@@ -123,7 +123,10 @@ pub fn put_players(
         × (now (presence .exit)
         ≡ bitPut (eqb code 0x37) (now (numbers .entry)) (toldAt (now (file .entry)) at) frames n (now (presence .entry))) ⌝ }
 {
-    put_player(code == 0x37, file, at, pre, numbers, frames, n, pres);
+    if code == 0x37 {
+        put_player(code == 0x37, file, at, pre, numbers, frames, n, pres);
+        put_bit(code == 0x37, file, at, numbers, frames, n, presence);
+        return;
+    }
     put_player(code == 0x38, file, at, post, numbers, frames, n, posts);
-    put_bit(code == 0x37, file, at, numbers, frames, n, presence);
 }

@@ -1,3 +1,2 @@
-// The second pass of reading a replay back: the events of frames that are known to be in order, one after another.
+// The second pass of reading a replay back: the events of frames that are known to be in order, first the players', then all others.
 pub mod fill;
-pub mod pass;

@@ -2,8 +2,8 @@
 -- Assumes nothing.
 use mathlib.Core.Path.{_≡_, refl, sym, ap, ap₂, _∙_}
 use mathlib.Core.List.{List, [], _∷_}
-use Prim.Native.Nat.{ℕ, zero, suc, _+_, _-_, _*_, _≤_, _<_}
-use native.Mathlib.Nat.{add-zero, zero-mul, suc-mul, add-assoc, mul-le-mul-right, sub-eq-zero-of-le}
+use Prim.Native.Nat.{ℕ, zero, suc, _+_, _-_, _%_, _^_, _≤_, _<_}
+use native.Mathlib.Nat.{add-assoc}
 use native.Mathlib.Numerals.{add-one}
 use native.Mathlib.Omega.{arith}
 use lib.ListN.{length, getD, set, take, drop, length-set, drop-of-length-le}
@@ -12,102 +12,85 @@ use Rattle.wire.specs.Wire.{number, part}
 use Rattle.record.specs.Record.{readBack}
 use Rattle.record.specs.Inner.{InStore}
 use Rattle.record.proofs.Laws.{length-read, read-store}
-use Rattle.gather.specs.Inner.{rowsBack}
+use Rattle.record.proofs.Numbers.{low-is}
+use Rattle.gather.specs.Inner.{rowsAt}
 
-pub length-rows : (ws file : List ℕ) (at step n : ℕ) (cells : List ℕ) (stride i : ℕ) → length (rowsBack ws file at step n cells stride i) ≡ length cells
-unfolding rowsBack
-length-rows ws file at step zero cells stride i = refl
-length-rows ws file at step (suc n) cells stride i =
-    length-rows ws file (at + step) step n (readBack ws (drop at file) cells stride i) stride (i + 1) ∙ length-read ws (drop at file) cells stride i
+module _ (file places : List ℕ) (i : ℕ) where
+  pub length-rows : (ws : List ℕ) (off n : ℕ) (cells : List ℕ) (stride row : ℕ) → length (rowsAt ws file places i off n cells stride row) ≡ length cells
+  unfolding rowsAt
+  length-rows ws off zero cells stride row = refl
+  length-rows ws off (suc n) cells stride row =
+      length-read ws (drop (getD places (i + n) 0 + off) file) (rowsAt ws file places i off n cells stride row) stride (row + n) ∙ length-rows ws off n cells stride row
 
--- ---- a column and the columns after it: what a row's later columns are read into stands behind all cells of the first
+  -- ---- a column and the columns after it: what a row's later columns are read into stands behind all cells of the first
 
-set-read : (ws bytes cells : List ℕ) (stride i j v : ℕ) → j < i → set (readBack ws bytes cells stride i) j v ≡ readBack ws bytes (set cells j v) stride i
-unfolding readBack
-set-read [] bytes cells stride i j v h = refl
-set-read (w ∷ ws) bytes cells stride i j v h =
-    set-read ws (drop w bytes) (set cells i (number (take w bytes))) stride (i + stride) j v (omega arith)
-    ∙ ap (λ (l : List ℕ). readBack ws (drop w bytes) l stride (i + stride)) (set-comm cells i j (number (take w bytes)) v (λ e. omega arith))
+  set-read : (ws bytes cells : List ℕ) (stride k j v : ℕ) → j < k → readBack ws bytes (set cells j v) stride k ≡ set (readBack ws bytes cells stride k) j v
+  unfolding readBack
+  set-read [] bytes cells stride k j v h = refl
+  set-read (w ∷ ws) bytes cells stride k j v h =
+      ap (λ (l : List ℕ). readBack ws (drop w bytes) l stride (k + stride)) (set-comm cells j k v (number (take w bytes)) (λ e. omega arith))
+      ∙ set-read ws (drop w bytes) (set cells k (number (take w bytes))) stride (k + stride) j v (omega arith)
 
-column-read : (w : ℕ) (ws bytes file : List ℕ) (at step n : ℕ) (cells : List ℕ) (stride i j : ℕ) → j + n ≤ i
-    → rowsBack (w ∷ []) file at step n (readBack ws bytes cells stride i) 0 j ≡ readBack ws bytes (rowsBack (w ∷ []) file at step n cells 0 j) stride i
-unfolding rowsBack readBack
-column-read w ws bytes file at step zero cells stride i j h = refl
-column-read w ws bytes file at step (suc n) cells stride i j h =
-    let v = number (take w (drop at file)) in
-    ap (λ (l : List ℕ). rowsBack (w ∷ []) file (at + step) step n l 0 (j + 1)) (set-read ws bytes cells stride i j v (omega arith))
-    ∙ column-read w ws bytes file (at + step) step n (set cells j v) stride i (j + 1) (omega arith)
+  set-rows : (ws : List ℕ) (off n : ℕ) (cells : List ℕ) (stride row j v : ℕ) → j < row → rowsAt ws file places i off n (set cells j v) stride row ≡ set (rowsAt ws file places i off n cells stride row) j v
+  unfolding rowsAt
+  set-rows ws off zero cells stride row j v h = refl
+  set-rows ws off (suc n) cells stride row j v h =
+      let b = drop (getD places (i + n) 0 + off) file in
+      ap (λ (l : List ℕ). readBack ws b l stride (row + n)) (set-rows ws off n cells stride row j v h)
+      ∙ set-read ws b (rowsAt ws file places i off n cells stride row) stride (row + n) j v (omega arith)
 
--- rows are their first column, and then the rows of the columns after it
-pub rows-column : (w : ℕ) (ws file : List ℕ) (at step n : ℕ) (cells : List ℕ) (stride i : ℕ) → n ≤ stride
-    → rowsBack (w ∷ ws) file at step n cells stride i ≡ rowsBack ws file (at + w) step n (rowsBack (w ∷ []) file at step n cells 0 i) stride (i + stride)
-unfolding rowsBack readBack
-rows-column w ws file at step zero cells stride i h = refl
-rows-column w ws file at step (suc n) cells stride i h =
-    let one = set cells i (number (take w (drop at file))) in
-    let place : at + step + w ≡ at + w + step = omega arith in
-    let index : i + 1 + stride ≡ i + stride + 1 = omega arith in
-    rows-column w ws file (at + step) step n (readBack ws (drop w (drop at file)) one stride (i + stride)) stride (i + 1) (omega arith)
-    ∙ ap (λ (l : List ℕ). rowsBack ws file (at + step + w) step n l stride (i + 1 + stride))
-    (column-read w ws (drop w (drop at file)) file (at + step) step n one stride (i + stride) (i + 1) (omega arith)
-    ∙ ap (λ (b : List ℕ). readBack ws b (rowsBack (w ∷ []) file (at + step) step n one 0 (i + 1)) stride (i + stride)) (drop-drop w at file))
-    ∙ ap₂ (λ (p j : ℕ). rowsBack ws file p step n (readBack ws (drop (at + w) file) (rowsBack (w ∷ []) file (at + step) step n one 0 (i + 1)) stride (i + stride)) stride j) place index
+  -- rows are their first column, and then the rows of the columns after it
+  rows-column : (w : ℕ) (ws : List ℕ) (off n : ℕ) (cells : List ℕ) (stride row : ℕ) → n ≤ stride
+      → rowsAt (w ∷ ws) file places i off n cells stride row ≡ rowsAt ws file places i (off + w) n (rowsAt (w ∷ []) file places i off n cells 0 row) stride (row + stride)
+  unfolding rowsAt readBack
+  rows-column w ws off zero cells stride row h = refl
+  rows-column w ws off (suc n) cells stride row h =
+      let place = getD places (i + n) 0 in
+      let b = drop (place + off) file in
+      let v = number (take w b) in
+      let one = rowsAt (w ∷ []) file places i off n cells 0 row in
+      let all = rowsAt ws file places i (off + w) n one stride (row + stride) in
+      let index : row + n + stride ≡ row + stride + n = omega arith in
+      let there : drop w b ≡ drop (place + (off + w)) file = drop-drop w (place + off) file ∙ ap (λ (x : ℕ). drop x file) (add-assoc place off w) in
+      ap (λ (l : List ℕ). readBack ws (drop w b) (set l (row + n) v) stride (row + n + stride)) (rows-column w ws off n cells stride row (omega arith))
+      ∙ ap (λ (l : List ℕ). readBack ws (drop w b) l stride (row + n + stride)) (sym (set-rows ws (off + w) n one stride (row + stride) (row + n) v (omega arith)))
+      ∙ ap₂ (λ (l : List ℕ) (k : ℕ). readBack ws l (rowsAt ws file places i (off + w) n (set one (row + n) v) stride (row + stride)) stride k) there index
 
--- ---- a loop down one column, at row t: whoever reads the cells from there on has then read all eight
-pub record Down (w : ℕ) (file : List ℕ) (at step : ℕ) (before : List ℕ) (first : ℕ) (now : List ℕ) (p t : ℕ) : Type 0 where
-  pub few : t ≤ 8
-  pub place : p ≡ at + t * step + w
-  pub same : length now ≡ length before
-  pub left : rowsBack (w ∷ []) file (at + t * step) step (8 - t) now 0 (first + t) ≡ rowsBack (w ∷ []) file at step 8 before 0 first
+  -- one cell more of a column
+  pub down-step : (w off t : ℕ) (cells now : List ℕ) (first v : ℕ) → now ≡ rowsAt (w ∷ []) file places i off t cells 0 first → v ≡ number (part file (getD places (i + t) 0 + off) w)
+      → set now (first + t) v ≡ rowsAt (w ∷ []) file places i off (t + 1) cells 0 first
+  unfolding rowsAt readBack part
+  down-step w off t cells now first v e q = rw (add-one t) (ap₂ (λ (l : List ℕ) (x : ℕ). set l (first + t) x) e q)
 
-module _ {w : ℕ} {file : List ℕ} {at step : ℕ} {before : List ℕ} {first : ℕ} where
-  pub down-start : Down w file at step before first before (at + w) 0
-  down-start = record {
-    few = omega arith;
-    place = rw (zero-mul step, add-zero at);
-    same = refl;
-    left = rw (zero-mul step, add-zero at, add-zero first);
-  }
+  pub down-start : (w off : ℕ) (cells : List ℕ) (first : ℕ) → cells ≡ rowsAt (w ∷ []) file places i off 0 cells 0 first
+  unfolding rowsAt
+  down-start w off cells first = refl
 
-  module _ {now : List ℕ} {p t : ℕ} where
-    pub down-step : (v : ℕ) → Down w file at step before first now p t → t < 8 → v ≡ number (part file (p - w) w) → Down w file at step before first (set now (first + t) v) (p + step) (t + 1)
-    unfolding rowsBack readBack part
-    down-step v d h q =
-        let more : 8 - t ≡ suc (8 - (t + 1)) = omega arith in
-        let next : at + (t + 1) * step ≡ at + t * step + step = let m = suc-mul t step in rw (add-one t) (omega arith) in
-        let here : p - w ≡ at + t * step = omega (arith, d .place) in
-        record {
-          few = omega arith;
-          place = omega (arith, d .place);
-          same = length-set now (first + t) v ∙ d .same;
-          left = rw (next, ← add-assoc first t 1, q, here) (rw more at (d .left));
-        }
+  -- ---- a loop over the columns, at column k: one turn, and the end
+  module _ (ws : List ℕ) (k w : ℕ) (h : k < length ws) (e : w ≡ getD ws k 0) where
+    pub across-step : (off : ℕ) (cells : List ℕ) (stride row : ℕ) → 8 ≤ stride
+        → rowsAt (drop (k + 1) ws) file places i (off + w) 8 (rowsAt (w ∷ []) file places i off 8 cells 0 row) stride (row + stride) ≡ rowsAt (drop k ws) file places i off 8 cells stride row
+    across-step off cells stride row wide = rw (drop-cons ws k 0 h, add-one k, ← e) (sym (rows-column w (drop (suc k) ws) off 8 cells stride row wide))
 
-    pub down-done : Down w file at step before first now p t → 8 ≤ t → now ≡ rowsBack (w ∷ []) file at step 8 before 0 first
-    unfolding rowsBack
-    down-done d h = rw (sub-eq-zero-of-le h) at (d .left)
+    -- the last row's cells are in their store
+    pub across-store : (len stride row : ℕ) → InStore (drop k ws) len stride (row + 7) → (w ≤ 4) × (row + 8 ≤ len) × (stride ≤ len) × InStore (drop (k + 1) ws) len stride (row + stride + 7)
+    across-store len stride row s =
+        let (narrow, inside, few, rest) = read-store ws k w h e len stride (row + 7) s in
+        let index : row + 7 + stride ≡ row + stride + 7 = omega arith in
+        (narrow, omega arith, few, rw index at rest)
 
-    -- where a turn's cell ends
-    pub down-at : Down w file at step before first now p t → t < 8 → p ≤ at + 7 * step + w
-    down-at d h = let l : t * step ≤ 7 * step = mul-le-mul-right step (omega arith) in omega (arith, d .place)
+  rows-none : (off n : ℕ) (cells : List ℕ) (stride row : ℕ) → rowsAt [] file places i off n cells stride row ≡ cells
+  unfolding rowsAt readBack
+  rows-none off zero cells stride row = refl
+  rows-none off (suc n) cells stride row = rows-none off n cells stride row
 
--- ---- a loop over the columns, at column k: one turn, and the end
-module _ (ws : List ℕ) (k w : ℕ) (h : k < length ws) (e : w ≡ getD ws k 0) where
-  pub across-step : (file : List ℕ) (p step : ℕ) (cells : List ℕ) (stride i : ℕ) → 8 ≤ stride
-      → rowsBack (drop (k + 1) ws) file (p + w) step 8 (rowsBack (w ∷ []) file p step 8 cells 0 i) stride (i + stride) ≡ rowsBack (drop k ws) file p step 8 cells stride i
-  across-step file p step cells stride i wide = rw (drop-cons ws k 0 h, add-one k, ← e) (sym (rows-column w (drop (suc k) ws) file p step 8 cells stride i wide))
+  pub across-done : (ws : List ℕ) (k off n : ℕ) (cells : List ℕ) (stride row : ℕ) → length ws ≤ k → rowsAt (drop k ws) file places i off n cells stride row ≡ cells
+  across-done ws k off n cells stride row h = rw (drop-of-length-le ws h) (rows-none off n cells stride row)
 
-  -- the last row's cells are in their store
-  pub across-store : (len stride i : ℕ) → InStore (drop k ws) len stride (i + 7) → (w ≤ 4) × (i + 8 ≤ len) × (stride ≤ len) × InStore (drop (k + 1) ws) len stride (i + stride + 7)
-  across-store len stride i s =
-      let (narrow, inside, few, rest) = read-store ws k w h e len stride (i + 7) s in
-      let index : i + 7 + stride ≡ i + stride + 7 = omega arith in
-      (narrow, omega arith, few, rw index at rest)
-
-rows-none : (file : List ℕ) (at step n : ℕ) (cells : List ℕ) (stride i : ℕ) → rowsBack [] file at step n cells stride i ≡ cells
-unfolding rowsBack readBack
-rows-none file at step zero cells stride i = refl
-rows-none file at step (suc n) cells stride i = rows-none file (at + step) step n cells stride (i + 1)
-
-pub across-done : (ws file : List ℕ) (k p step n : ℕ) (cells : List ℕ) (stride i : ℕ) → length ws ≤ k → rowsBack (drop k ws) file p step n cells stride i ≡ cells
-across-done ws file k p step n cells stride i h = rw (drop-of-length-le ws h) (rows-none file p step n cells stride i)
+-- the cell of w bytes that begin `off` behind a place, from the four bytes that end where it ends
+pub low-at : (file : List ℕ) (place off w base : ℕ) → ((i : ℕ) → getD file i 0 < 256) → w ≤ 4 → 4 ≤ off → place + (off + w) ≤ length file → base ≡ off + w - 4
+    → number (part file (place + base) 4) % 256 ^ w ≡ number (part file (place + off) w)
+low-at file place off w base bytes narrow room inside e =
+    let a : place + base ≡ place + (off + w) - 4 = omega arith in
+    let b : place + (off + w) - w ≡ place + off = omega arith in
+    ap (λ (x : ℕ). number (part file x 4) % 256 ^ w) a ∙ low-is file (place + (off + w)) w bytes narrow (omega arith) inside ∙ ap (λ (x : ℕ). number (part file x w)) b

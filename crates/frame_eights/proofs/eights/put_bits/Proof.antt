@@ -2,7 +2,7 @@
 -- Assumes nothing.
 use Prim.Native.Nat.{_-_}
 use native.Mathlib.Omega.{arith}
-use Rattle.frame_eights.proofs.Leaves.{Marking, marking-start, marking-step, marking-done}
+use Rattle.frame_eights.proofs.Places.{Marking, marking-start, marking-step, marking-done}
 use Rattle.frame_eights.proofs.eights.put_bits.Statement.{statement}
 use Rattle.frame_eights.proofs.eights.put_bits.Tie as tie
 use Rattle.frame_eights.proofs.eights.put_bits.Reads as reads

@@ -1,58 +1,78 @@
 -- `frame_fill::rows::put_rows` meets its contract.
 -- Assumes nothing.
-use Rattle.frame_fill.specs.Inner.{nextAfter}
+use mathlib.Core.Path.{_≡_, _∙_}
+use native.Mathlib.Omega.{arith}
+use Rattle.frame_fill.proofs.Dispatch.{quiet-row, next-starts, next-ends, next-items, next-stage}
 use borrow.Author.Needs.{needs}
 use Rattle.frame_fill.proofs.rows.put_rows.Statement.{statement}
 use Rattle.frame_fill.proofs.rows.put_rows.Tie as tie
 use Rattle.frame_fill.proofs.rows.put_rows.Reads as reads
 use Rattle.frame_fill.proofs.rows.put_rows.Lts as lts
 use Rattle.frame_fill.proofs.rows.put_row.Reads as put-row-reads
-
-put-row-requires-5 : tie.Need-put-row-requires-5
-put-row-requires-5 c κs = (c .before .before .before .before .before .before .before .before .before .before .before .before .before .before .before .before .before .before .before .before .before .before .before .before .before .before .before .before .before .before .pre .0, c .before .before .before .before .before .before .before .before .before .before .before .before .before .before .before .before .before .before .before .before .before .before .before .before .before .before .before .before .before .before .pre .5 .0, c .before .before .before .before .before .before .before .before .before .before .before .before .before .before .before .before .before .before .before .before .before .before .before .before .before .before .before .before .before .before .pre .5 .1)
-
-put-row-requires-6 : tie.Need-put-row-requires-6
-put-row-requires-6 c κs = (c .before .before .before .before .before .before .before .before .before .before .before .before .before .before .before .before .before .before .before .before .before .before .before .before .before .before .before .before .before .before .before .before .before .before .pre .0, c .before .before .before .before .before .before .before .before .before .before .before .before .before .before .before .before .before .before .before .before .before .before .before .before .before .before .before .before .before .before .before .before .before .before .pre .6 .0, c .before .before .before .before .before .before .before .before .before .before .before .before .before .before .before .before .before .before .before .before .before .before .before .before .before .before .before .before .before .before .before .before .before .before .pre .6 .1)
-
-returns : tie.Need-returns
-unfolding nextAfter
-returns c = (
-  λ i. record {
-    starts = c .before .before .before .before .before .before .before .before .before .before .before .before .before .before .before .before .before .before .before .before .before .before .put-row .ensures .1 i;
-    ends = c .before .before .before .before .before .before .before .before .before .before .before .before .before .before .before .before .before .before .put-row2 .ensures .1 i;
-    items = c .before .before .before .before .before .before .before .before .before .before .before .before .before .before .put-row3 .ensures .1 i;
-    fods = c .before .before .before .before .before .before .before .before .before .before .put-row4 .ensures .1 i;
-    whispys = c .before .before .before .before .before .before .put-row5 .ensures .1 i;
-    stadiums = c .before .before .put-row6 .ensures .1 i;
-  },
-  c .before .before .before .before .before .before .before .before .before .before .before .before .before .before .before .before .before .before .before .before .before .before .put-row .ensures .0,
-  c .before .before .before .before .before .before .before .before .before .before .before .before .before .before .before .before .before .before .put-row2 .ensures .0,
-  c .before .before .before .before .before .before .before .before .before .before .before .before .before .before .put-row3 .ensures .0,
-  c .before .before .before .before .before .before .before .before .before .before .put-row4 .ensures .0,
-  c .before .before .before .before .before .before .put-row5 .ensures .0,
-  c .before .before .put-row6 .ensures .0,
-)
+use Rattle.frame_fill.proofs.rows.put_stage.Reads as put-stage-reads
 
 put-row-requires : tie.Need-put-row-requires
-put-row-requires c κs = (c .before .before .before .before .before .before .before .before .before .before .before .before .before .before .pre .0, c .before .before .before .before .before .before .before .before .before .before .before .before .before .before .pre .1 .0, c .before .before .before .before .before .before .before .before .before .before .before .before .before .before .pre .1 .1)
-
-put-row-requires-2 : tie.Need-put-row-requires-2
-put-row-requires-2 c κs = (c .before .before .before .before .before .before .before .before .before .before .before .before .before .before .before .before .before .before .pre .0, c .before .before .before .before .before .before .before .before .before .before .before .before .before .before .before .before .before .before .pre .2 .0, c .before .before .before .before .before .before .before .before .before .before .before .before .before .before .before .before .before .before .pre .2 .1)
-
-put-row-requires-3 : tie.Need-put-row-requires-3
-put-row-requires-3 c κs = (c .before .before .before .before .before .before .before .before .before .before .before .before .before .before .before .before .before .before .before .before .before .before .pre .0, c .before .before .before .before .before .before .before .before .before .before .before .before .before .before .before .before .before .before .before .before .before .before .pre .3 .0, c .before .before .before .before .before .before .before .before .before .before .before .before .before .before .before .before .before .before .before .before .before .before .pre .3 .1)
-
-put-row-requires-4 : tie.Need-put-row-requires-4
-put-row-requires-4 c κs = (c .before .before .before .before .before .before .before .before .before .before .before .before .before .before .before .before .before .before .before .before .before .before .before .before .before .before .pre .0, c .before .before .before .before .before .before .before .before .before .before .before .before .before .before .before .before .before .before .before .before .before .before .before .before .before .before .pre .4 .0, c .before .before .before .before .before .before .before .before .before .before .before .before .before .before .before .before .before .before .before .before .before .before .before .before .before .before .pre .4 .1)
+put-row-requires c κs = search needs
 
 same-length : tie.Need-same-length
 same-length c = search needs
 
+returns : tie.Need-returns
+returns c =
+    let b18 = c .before .before .before .before .before .before .before .before .before .before .before .before .before .before .before .before .before .before in
+    let e = c .before .before .before .before .if1 .taken in
+    let r = c .before .before .put-row .ensures in (
+      next-starts _ _ _ e (r .1),
+      r .0,
+      quiet-row (b18 .args .code) 0x3C (λ z. absurd (omega (arith, e, z))) _ _ _ _ _,
+      quiet-row (b18 .args .code) 0x3B (λ z. absurd (omega (arith, e, z))) _ _ _ _ _,
+      quiet-row (b18 .args .code) 0x3F (λ z. absurd (omega (arith, e, z))) _ _ _ _ _,
+      quiet-row (b18 .args .code) 0x40 (λ z. absurd (omega (arith, e, z))) _ _ _ _ _,
+      quiet-row (b18 .args .code) 0x41 (λ z. absurd (omega (arith, e, z))) _ _ _ _ _,
+    )
+
+put-row-requires-2 : tie.Need-put-row-requires-2
+put-row-requires-2 c κs = search needs
+
 same-length-2 : tie.Need-same-length-2
 same-length-2 c = search needs
 
+returns-2 : tie.Need-returns-2
+returns-2 c =
+    let b19 = c .before .before .before .before .before .before .before .before .before .before .before .before .before .before .before .before .before .before .before in
+    let e = c .before .before .before .before .if2 .taken in
+    let r = c .before .before .put-row2 .ensures in (
+      next-ends _ _ _ e (r .1),
+      quiet-row (b19 .args .code) 0x3A (λ z. absurd (omega (arith, e, z))) _ _ _ _ _,
+      r .0,
+      quiet-row (b19 .args .code) 0x3B (λ z. absurd (omega (arith, e, z))) _ _ _ _ _,
+      quiet-row (b19 .args .code) 0x3F (λ z. absurd (omega (arith, e, z))) _ _ _ _ _,
+      quiet-row (b19 .args .code) 0x40 (λ z. absurd (omega (arith, e, z))) _ _ _ _ _,
+      quiet-row (b19 .args .code) 0x41 (λ z. absurd (omega (arith, e, z))) _ _ _ _ _,
+    )
+
+put-row-requires-3 : tie.Need-put-row-requires-3
+put-row-requires-3 c κs = search needs
+
 same-length-3 : tie.Need-same-length-3
 same-length-3 c = search needs
+
+returns-3 : tie.Need-returns-3
+returns-3 c =
+    let b20 = c .before .before .before .before .before .before .before .before .before .before .before .before .before .before .before .before .before .before .before .before in
+    let e = c .before .before .before .before .if3 .taken in
+    let r = c .before .before .put-row3 .ensures in (
+      next-items _ _ _ e (r .1),
+      quiet-row (b20 .args .code) 0x3A (λ z. absurd (omega (arith, e, z))) _ _ _ _ _,
+      quiet-row (b20 .args .code) 0x3C (λ z. absurd (omega (arith, e, z))) _ _ _ _ _,
+      r .0,
+      quiet-row (b20 .args .code) 0x3F (λ z. absurd (omega (arith, e, z))) _ _ _ _ _,
+      quiet-row (b20 .args .code) 0x40 (λ z. absurd (omega (arith, e, z))) _ _ _ _ _,
+      quiet-row (b20 .args .code) 0x41 (λ z. absurd (omega (arith, e, z))) _ _ _ _ _,
+    )
+
+put-stage-requires : tie.Need-put-stage-requires
+put-stage-requires c κs = search needs
 
 same-length-4 : tie.Need-same-length-4
 same-length-4 c = search needs
@@ -63,20 +83,29 @@ same-length-5 c = search needs
 same-length-6 : tie.Need-same-length-6
 same-length-6 c = search needs
 
+returns-4 : tie.Need-returns-4
+returns-4 c =
+    let a = c .before .before .before .before .before .before .before .before .before .before .before .before .if1 .left in
+    let b = c .before .before .before .before .before .before .before .before .before .before .before .if2 .left in
+    let d = c .before .before .before .before .before .before .before .before .before .before .if3 .left in
+    let r = c .before .before .before .before .before .before .put-stage .ensures in
+    (r .0 ∙ next-stage _ _ _ a b d, quiet-row _ 0x3A a _ _ _ _ _, quiet-row _ 0x3C b _ _ _ _ _, quiet-row _ 0x3B d _ _ _ _ _, r .1, r .2, r .3)
+
 pub put-rows-spec : {M : Type 1} → statement M
 put-rows-spec =
     tie.close
     (tie.spec
     put-row-requires
-    put-row-requires-2
-    put-row-requires-3
-    put-row-requires-4
-    put-row-requires-5
-    put-row-requires-6
     same-length
+    returns
+    put-row-requires-2
     same-length-2
+    returns-2
+    put-row-requires-3
     same-length-3
+    returns-3
+    put-stage-requires
     same-length-4
     same-length-5
     same-length-6
-    returns)
+    returns-4)

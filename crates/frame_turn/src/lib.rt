@@ -1,0 +1,2 @@
+// One event of a frame into the stores that are no player's: the store of its code, and its frame's id and offsets where it begins one.
+pub mod turn;
