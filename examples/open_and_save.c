@@ -2,10 +2,13 @@
  *
  *     cc -std=c11 open_and_save.c $(pkg-config --cflags --libs slp) -o open_and_save && ./open_and_save game.slp again.slp
  */
+#define _GNU_SOURCE   /* renameat2 */
+#include <fcntl.h>
 #include <slp.h>
 #include <stdio.h>
 #include <stdlib.h>
 #include <string.h>
+#include <unistd.h>
 
 /* All of a file, in memory that the caller frees; NULL if it cannot be read. */
 static uint8_t *contents(const char *path, size_t *len)
@@ -31,11 +34,31 @@ static void show(const slp_opened *o)
 	printf("\n");
 }
 
+/* The folder of a file on the disk, with the file's name. The path is cut at its last slash. */
+static int sync_folder(char *path)
+{
+	char *slash = strrchr(path, '/');
+	if (slash)
+		slash[1] = 0;
+	int folder = open(slash ? path : ".", O_RDONLY | O_DIRECTORY);
+	int synced = folder >= 0 && fsync(folder) == 0;
+	if (folder >= 0)
+		close(folder);
+	return synced;
+}
+
+/* Under another name until all of it is on the disk, so that half a replay never has its name; and no other file loses that name. */
 static int save(const char *path, const uint8_t *bytes, size_t len)
 {
-	FILE *f = fopen(path, "wb");
-	int saved = f && fwrite(bytes, 1, len, f) == len;
-	return f && fclose(f) == 0 && saved;
+	char *first = malloc(strlen(path) + sizeof ".tmp");
+	FILE *f = first ? fopen(strcat(strcpy(first, path), ".tmp"), "wbx") : NULL;
+	int saved = f && fwrite(bytes, 1, len, f) == len && fflush(f) == 0 && fsync(fileno(f)) == 0;
+	saved = f && fclose(f) == 0 && saved && renameat2(AT_FDCWD, first, AT_FDCWD, path, RENAME_NOREPLACE) == 0;
+	if (f && !saved)
+		unlink(first);
+	saved = saved && sync_folder(first);
+	free(first);
+	return saved;
 }
 
 /* The game and its columns in a space of the measured lengths, saved with the old start block, the codes and the metadata. */

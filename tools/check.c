@@ -29,8 +29,8 @@ static const char *wrong_words(const content *c, unsigned number)
 static void print_answer(const char *prefix, const content *c, slp_checked is)
 {
 	progress_clear();
-	if (*prefix)
-		printf("%s: ", prefix);
+	if (prefix)
+		print_prefix(prefix);
 	if (!is.refused)
 		puts("sound");
 	else if (is.offset)
@@ -51,6 +51,7 @@ static int check_file(const char *path, const char *prefix)
 	}
 	slp_checked is = slp_check(c.bytes, c.len);
 	print_answer(prefix, &c, is);
+	complain_length(input_name(path), &c, is.refused, is.offset);
 	free(c.bytes);
 	return is.refused ? NOT_SOUND : IS_SOUND;
 }
@@ -63,14 +64,14 @@ static void print_summary(const int counts[ANSWERS], int files)
 	putchar('\n');
 }
 
-int check_files(char **paths, int count, int progress)
+int check_files(const request *q)
 {
 	int counts[ANSWERS] = { 0 };
-	progress_begin(progress, "reading", total_size(paths, count));
-	for (int i = 0; i < count; i++)
-		counts[check_file(paths[i], count > 1 ? paths[i] : "")]++;
+	progress_begin(q->progress, "reading", total_size(q->files, q->count));
+	for (int i = 0; i < q->count; i++)
+		counts[check_file(q->files[i], q->count > 1 ? q->files[i] : NULL)]++;
 	progress_clear();
-	if (count > 1)
-		print_summary(counts, count);
-	return counts[IS_SOUND] == count ? WELL : FAILED;
+	if (q->count > 1)
+		print_summary(counts, q->count);
+	return counts[IS_SOUND] == q->count ? WELL : FAILED;
 }

@@ -149,14 +149,11 @@ static size_t replaced(const cells *c)
 	return n;
 }
 
-/* On standard error where the replay itself is on standard output. */
 static void report(const char *path, size_t len, size_t replaced_frames, size_t metadata, slp_walked w)
 {
-	int standard = strcmp(path, "-") == 0;
-	FILE *to = standard ? stderr : stdout;
-	fprintf(to, "wrote %s: %zu bytes\n", standard ? "standard output" : path, len);
-	fprintf(to, "  version   3.18.0\n");
-	fprintf(to, "  players   Fox on port 1, Marth on port 2\n");
+	FILE *to = say_wrote(path, len);
+	fprintf(to, "\n  version   3.18.0\n");
+	fprintf(to, "  players   Fox on port 0, Marth on port 1\n");
 	fprintf(to, "  frames    %d, of which a rollback replaced %zu\n", FRAMES, replaced_frames);
 	fprintf(to, "  items     a laser, in %d frames\n", ITEM_ROWS);
 	fprintf(to, "  end       one, with placements\n");
@@ -164,8 +161,9 @@ static void report(const char *path, size_t len, size_t replaced_frames, size_t 
 	fprintf(to, "walked it: %zu events, %zu stray bytes, %s\n", w.events, w.stray, w.whole ? "whole" : "cut");
 }
 
-int write_demo(const char *path)
+int write_demo(const request *q)
 {
+	const char *path = q->files[0];
 	static cells c;
 	static uint8_t out[ROOM];
 	fill(&c);
@@ -183,9 +181,9 @@ int write_demo(const char *path)
 		complain("demo", "refused %u: %s", w.refused, refusal_words(w.refused));
 		return FAILED;
 	}
-	int wrong = save(path, out, w.len);
+	int wrong = save(path, q->force, out, w.len);
 	if (wrong) {
-		complain(strcmp(path, "-") == 0 ? "standard output" : path, "%s", strerror(wrong));
+		complain(output_name(path), "%s", strerror(wrong));
 		return FAILED;
 	}
 	slp_walked k = slp_walk(out, w.len);

@@ -60,6 +60,7 @@ static int refused_events(const char *name, const content *c, slp_step last)
 	if (last.refused != SLP_NOT_A_REPLAY)
 		complain_unfilled(name, c->bytes, c->len);
 	complain_refused(name, last.refused, last.offset);
+	complain_length(name, c, last.refused, last.offset);
 	return FAILED;
 }
 
@@ -80,17 +81,17 @@ static int print_events(const char *name, const content *c)
 	return w.whole ? WELL : FAILED;
 }
 
-int show_events(const char *path, int progress)
+int show_events(const request *q)
 {
 	content c;
-	char *paths[1] = { (char *)(uintptr_t)path };
-	progress_begin(progress, "reading", total_size(paths, 1));
-	int wrong = load(path, &c);
+	const char *path = q->files[0];
+	progress_begin(q->progress, "reading", total_size(q->files, 1));
+	int wrong = load_more(path, LONGEST_TAIL + 1, &c);
 	if (wrong) {
 		complain(input_name(path), "%s", strerror(wrong));
 		return FAILED;
 	}
-	progress_begin(progress, "counting", c.len);
+	progress_begin(q->progress, "counting", c.len);
 	int status = print_events(input_name(path), &c);
 	free(c.bytes);
 	return status;

@@ -6,7 +6,8 @@
 
 #include "tool.h"
 
-int parse_id(const char *text, int32_t *id)
+/* A whole number of 32 bits with its sign: WELL or FAILED. */
+static int parse_id(const char *text, int32_t *id)
 {
 	char *end;
 	errno = 0;
@@ -23,14 +24,14 @@ static int accepted_beside(const char *path, const content *file, content *index
 	char *name = index_name(path);
 	int wrong = name ? load_index(name, index) : ENOMEM, status = FAILED;
 	if (wrong == ENOENT) {
-		complain(path, "by a walk: there is no %s", name);
+		complain(path, "by a walk: there is no index beside it");
 	} else if (wrong) {
 		complain(name ? name : path, "%s", strerror(wrong));
 		complain(path, "by a walk");
 	} else {
 		unsigned number = slp_accepts_index(file->bytes, file->len, index->bytes, index->len).refused;
 		if (number == 0) {
-			complain(path, "through %s", name);
+			complain(path, "through the index beside it");
 			status = WELL;
 		} else if (number == SLP_BAD_INDEX || number == SLP_OTHER_REPLAY) {
 			complain(name, "refused %u: %s", number, refusal_words(number));
@@ -69,12 +70,15 @@ static int find_in(const char *path, const content *file, int32_t id)
 	return WELL;
 }
 
-int find_frame(const char *path, int32_t id, int progress)
+int find_frame(const request *q)
 {
-	char *paths[1] = { (char *)(uintptr_t)path };
+	const char *path = q->files[0];
 	content file;
-	progress_begin(progress, "reading", total_size(paths, 1));
-	int wrong = load(path, &file);
+	int32_t id;
+	if (parse_id(q->files[1], &id) != WELL)
+		return wrong_usage("not a frame's id:", q->files[1]);
+	progress_begin(q->progress, "reading", total_size(q->files, 1));
+	int wrong = load_more(path, LONGEST_TAIL + 1, &file);
 	progress_clear();
 	if (wrong) {
 		complain(input_name(path), "%s", strerror(wrong));

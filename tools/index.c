@@ -62,29 +62,38 @@ static int already_there(const char *name, const content *index)
 		same = there.len == index->len && memcmp(there.bytes, index->bytes, index->len) == 0;
 		free(there.bytes);
 	}
-	if (same)
-		printf("%s: there already, and this replay's index\n", name);
-	else
-		complain(name, "there already, and not this replay's index: it is not written over");
-	return same ? WELL : FAILED;
+	if (!same) {
+		complain(name, "there already, and not this replay's index (--force replaces it)");
+		return FAILED;
+	}
+	print_prefix(name);
+	puts("there already, and this replay's index");
+	return WELL;
 }
 
-static int write_beside(const char *path, const content *index)
+/* Of 9 bytes and 8 a frame. */
+static void report(const char *name, size_t len)
+{
+	fprintf(say_wrote(name, len), ", %zu frames\n", (len - SLP_INDEX_LEN(0)) / 8);
+}
+
+static int write_beside(const char *path, int force, const content *index)
 {
 	char *name = index_name(path);
 	if (!name) {
 		complain(path, "no memory");
 		return FAILED;
 	}
-	int wrong = save(name, index->bytes, index->len), status = WELL;
+	int status = force ? savable(name, force) : WELL;
+	int wrong = status == WELL ? save(name, force, index->bytes, index->len) : 0;
 	progress_clear();
 	if (wrong == EEXIST) {
 		status = already_there(name, index);
 	} else if (wrong) {
 		complain(name, "%s", strerror(wrong));
 		status = FAILED;
-	} else {
-		printf("wrote %s: %zu frames, %zu bytes\n", name, (index->len - 9) / 8, index->len);
+	} else if (status == WELL) {
+		report(name, index->len);
 	}
 	free(name);
 	return status;
@@ -100,17 +109,17 @@ static int warn_of_cut(const char *path, const content *file)
 	return FAILED;
 }
 
-static int index_file(const char *path)
+static int index_file(const char *path, int force)
 {
 	content file, index;
-	int wrong = load(path, &file);
+	int wrong = load_more(path, LONGEST_TAIL + 1, &file);
 	if (wrong) {
 		complain(path, "%s", strerror(wrong));
 		return FAILED;
 	}
 	int status = work_out_index(path, &file, &index);
 	if (status == WELL) {
-		status = write_beside(path, &index);
+		status = write_beside(path, force, &index);
 		if (warn_of_cut(path, &file) != WELL)
 			status = FAILED;
 		free(index.bytes);
@@ -119,12 +128,16 @@ static int index_file(const char *path)
 	return status;
 }
 
-int index_files(char **paths, int count, int progress)
+/* An index stands beside its replay, so the replay has a name. */
+int index_files(const request *q)
 {
 	int status = WELL;
-	progress_begin(progress, "reading", total_size(paths, count));
-	for (int i = 0; i < count; i++)
-		if (index_file(paths[i]) != WELL)
+	for (int i = 0; i < q->count; i++)
+		if (strcmp(q->files[i], "-") == 0)
+			return wrong_usage("index needs files with a name, not", "-");
+	progress_begin(q->progress, "reading", total_size(q->files, q->count));
+	for (int i = 0; i < q->count; i++)
+		if (index_file(q->files[i], q->force) != WELL)
 			status = FAILED;
 	progress_clear();
 	return status;

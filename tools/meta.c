@@ -5,33 +5,17 @@
 
 #include "tool.h"
 
-/* What stands before the body, and after it: the braces that close the map and the file. */
-static const uint8_t KEY[] = { 0x55, 8, 'm', 'e', 't', 'a', 'd', 'a', 't', 'a', 0x7b };
-enum { BRACES = 2 };
-
 /* An entry takes at least four bytes of a body: a key's two, and two braces. */
 enum { LEAST = 4 };
-
-/* A text on one line: bytes that are no printable ASCII, quotes and backslashes as \xNN. */
-static void print_text(const uint8_t *text, size_t len)
-{
-	putchar('"');
-	for (size_t i = 0; i < len; i++)
-		if (text[i] < 0x20 || text[i] > 0x7e || text[i] == '"' || text[i] == '\\')
-			printf("\\x%02x", text[i]);
-		else
-			putchar(text[i]);
-	putchar('"');
-}
 
 /* One entry; its maps' entries follow it. */
 static void print_entry(const uint8_t *body, const slp_entry *e, int depth)
 {
 	printf("%*s", 2 * depth, "");
-	print_text(body + e->key, e->key_len);
+	put_text(stdout, body + e->key, e->key_len);
 	fputs(": ", stdout);
 	if (e->kind == SLP_ENTRY_TEXT)
-		print_text(body + e->value, e->len);
+		put_text(stdout, body + e->value, e->len);
 	else if (e->kind == SLP_ENTRY_NUMBER)
 		printf("%ld", (long)(int32_t)e->value);
 	else
@@ -76,7 +60,8 @@ static int print_tail(const char *name, const content *c, size_t at)
 {
 	const uint8_t *tail = c->bytes + at;
 	size_t len = c->len - at;
-	if (len == 1 && tail[0] == 0x7d) {
+	int kind = tail_kind(tail, len);
+	if (kind == SLP_FILE_TAIL_NONE) {
 		complain(name, "has no metadata");
 		return FAILED;
 	}
@@ -84,11 +69,11 @@ static int print_tail(const char *name, const content *c, size_t at)
 		complain(name, "more than %d bytes after the event data, which no metadata takes", (int)LONGEST_TAIL);
 		return FAILED;
 	}
-	if (len < sizeof KEY + BRACES || memcmp(tail, KEY, sizeof KEY) != 0 || tail[len - 2] != 0x7d || tail[len - 1] != 0x7d) {
+	if (kind == SLP_FILE_TAIL_ODD) {
 		complain(name, "what stands after the event data, from byte %zu on, is no metadata", at);
 		return FAILED;
 	}
-	return print_body(name, tail + sizeof KEY, len - sizeof KEY - BRACES, at + sizeof KEY);
+	return print_body(name, tail + TAIL_KEY, len - TAIL_KEY - TAIL_BRACES, at + TAIL_KEY);
 }
 
 static int print_metadata(const char *name, const content *c)
@@ -98,6 +83,7 @@ static int print_metadata(const char *name, const content *c)
 		complain_unfilled(name, c->bytes, c->len);
 	if (w.refused) {
 		complain_refused(name, w.refused, w.offset);
+		complain_length(name, c, w.refused, w.offset);
 		return FAILED;
 	}
 	if (!w.whole) {
@@ -107,9 +93,10 @@ static int print_metadata(const char *name, const content *c)
 	return print_tail(name, c, 15 + declared_length(c->bytes));
 }
 
-int show_metadata(const char *path)
+int show_metadata(const request *q)
 {
 	content c;
+	const char *path = q->files[0];
 	int wrong = load_more(path, LONGEST_TAIL + 1, &c);
 	if (wrong) {
 		complain(input_name(path), "%s", strerror(wrong));

@@ -9,11 +9,13 @@ void complain_unread(const char *name, const content *c, unsigned number, size_t
 	slp_walked w = slp_walk(c->bytes, c->len);
 	if (w.refused != SLP_NOT_A_REPLAY)
 		complain_unfilled(name, c->bytes, c->len);
-	if (w.refused)
+	if (w.refused) {
 		complain_refused(name, number, offset);
-	else
-		complain(name, "refused %u: %s", number, refusal_words(number));
-	if (!w.refused && !w.whole)
+		complain_length(name, c, number, offset);
+		return;
+	}
+	complain(name, "refused %u: %s", number, refusal_words(number));
+	if (!w.whole)
 		complain_cut(name, c->bytes, c->len);
 }
 

@@ -1,6 +1,8 @@
 /* A bar on standard error. */
 #include <inttypes.h>
 #include <stdio.h>
+#include <string.h>
+#include <sys/ioctl.h>
 #include <unistd.h>
 
 #include "tool.h"
@@ -9,7 +11,8 @@
 #define LONG_WORK (UINT64_C(64) << 20)
 #define MEGABYTE (UINT64_C(1) << 20)
 
-enum { WIDTH = 30, NOT_DRAWN = -1 };
+/* The widest and the narrowest bar, a terminal's columns where it does not say, and room for a line. */
+enum { WIDEST = 30, NARROWEST = 5, COLUMNS = 80, LINE = 256, NOT_DRAWN = -1 };
 
 static struct {
 	int on;
@@ -27,13 +30,28 @@ void progress_begin(int when, const char *what, uint64_t total)
 	bar.done = 0;
 }
 
+/* How wide a line may be: the last column stays free, since some terminals go on to the next line from it. */
+static int line_width(void)
+{
+	struct winsize w = { .ws_col = 0 };
+	int columns = ioctl(STDERR_FILENO, TIOCGWINSZ, &w) == 0 && w.ws_col > 0 ? w.ws_col : COLUMNS;
+	return columns - 1;
+}
+
+/* The bar takes what the words leave it; without room for one the words stand alone, cut where the line ends. */
 static void draw(int percent)
 {
-	int full = percent * WIDTH / 100;
-	fprintf(stderr, "\r%s [", bar.what);
-	for (int i = 0; i < WIDTH; i++)
-		fputc(i < full ? '#' : '-', stderr);
-	fprintf(stderr, "] %3d%%  %" PRIu64 " of %" PRIu64 " MB", percent, bar.done / MEGABYTE, bar.total / MEGABYTE);
+	char amount[64], marks[WIDEST + 1], line[LINE];
+	int most = line_width();
+	snprintf(amount, sizeof amount, "%3d%%  %" PRIu64 " of %" PRIu64 " MB", percent, bar.done / MEGABYTE, bar.total / MEGABYTE);
+	int left = most - (int)strlen(bar.what) - (int)strlen(amount) - 4, width = left < WIDEST ? left : WIDEST;
+	for (int i = 0; i < width; i++)
+		marks[i] = i < percent * width / 100 ? '#' : '-';
+	if (width >= NARROWEST)
+		snprintf(line, sizeof line, "%s [%.*s] %s", bar.what, width, marks, amount);
+	else
+		snprintf(line, sizeof line, "%s %s", bar.what, amount);
+	fprintf(stderr, "\r%.*s", most, line);
 	fflush(stderr);
 }
 

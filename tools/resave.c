@@ -5,23 +5,18 @@
 
 #include "tool.h"
 
-const char *output_name(const char *path)
-{
-	return strcmp(path, "-") == 0 ? "standard output" : path;
-}
-
-/* On standard error where the replay itself is on standard output. */
 static void report(const char *in, const char *out, const content *was, const uint8_t *is, size_t len)
 {
-	FILE *to = strcmp(out, "-") == 0 ? stderr : stdout;
 	size_t both = was->len < len ? was->len : len, at = 0;
 	while (at < both && was->bytes[at] == is[at])
 		at++;
-	fprintf(to, "wrote %s: %zu bytes, ", output_name(out), len);
-	if (was->len == len && at == len)
-		fprintf(to, "the same as %s\n", input_name(in));
-	else
-		fprintf(to, "not the same as %s: they differ from byte %zu on\n", input_name(in), at);
+	int same = was->len == len && at == len;
+	FILE *to = say_wrote(out, len);
+	fputs(same ? ", the same as " : ", not the same as ", to);
+	put_name(to, input_name(in));
+	if (!same)
+		fprintf(to, ": they differ from byte %zu on", at);
+	fputc('\n', to);
 }
 
 /* A file's tail that is neither a brace nor metadata is in no column, and so it is not written. */
@@ -37,22 +32,24 @@ size_t room_for(const replay *r)
 	return slp_room(slp_plan_of(&r->opened.game, p->block_len, r->space.codes.len, p->metadata_len)).bytes;
 }
 
-int save_written(const char *in, const char *out, slp_written w, const uint8_t *file, int progress)
+int save_written(const request *q, slp_written w, const uint8_t *file)
 {
+	const char *in = q->files[0], *out = q->files[1];
 	if (w.refused) {
 		complain(input_name(in), "refused %u: %s", w.refused, refusal_words(w.refused));
 		return FAILED;
 	}
-	progress_begin(progress, "writing", w.len);
-	int wrong = save(out, file, w.len);
+	progress_begin(q->progress, "writing", w.len);
+	int wrong = save(out, q->force, file, w.len);
 	progress_clear();
 	if (wrong)
 		complain(output_name(out), "%s", strerror(wrong));
 	return wrong ? FAILED : WELL;
 }
 
-static int write_again(const char *in, const char *out, const replay *r, int progress)
+static int write_again(const request *q, const replay *r)
 {
+	const char *in = q->files[0], *out = q->files[1];
 	size_t room = room_for(r);
 	uint8_t *file = malloc(room + 1);
 	if (!file) {
@@ -60,20 +57,20 @@ static int write_again(const char *in, const char *out, const replay *r, int pro
 		return FAILED;
 	}
 	slp_written w = slp_save(file, room, &r->opened, &r->space, r->file.bytes);
-	int status = save_written(in, out, w, file, progress);
+	int status = save_written(q, w, file);
 	if (status == WELL)
 		report(in, out, &r->file, file, w.len);
 	free(file);
 	return status;
 }
 
-int resave(const char *in, const char *out, int progress)
+int resave(const request *q)
 {
 	replay r;
-	if (open_replay(in, progress, &r) != WELL)
+	if (open_replay(q->files[0], q->progress, &r) != WELL)
 		return FAILED;
-	warn_of_tail(input_name(in), &r);
-	int status = write_again(in, out, &r, progress);
+	warn_of_tail(input_name(q->files[0]), &r);
+	int status = write_again(q, &r);
 	close_replay(&r);
 	return status;
 }

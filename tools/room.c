@@ -47,23 +47,16 @@ static int parse_version(const char *text, slp_version *v)
 	return WELL;
 }
 
-int room_option(const char *option, room_wish *w)
+int room_option(const char *name, const char *value, room_wish *w)
 {
-	const char *value = strchr(option, '=');
-	if (strncmp(option, "--", 2) != 0 || !value)
-		return NOT_OURS;
-	size_t len = (size_t)(value - option) - 2;
-	if (len == 6 && strncmp(option + 2, "replay", len) == 0) {
-		w->given = 1;
-		return parse_version(value + 1, &w->plan.version);
-	}
+	if (strcmp(name, "replay") == 0)
+		return parse_version(value, &w->plan.version);
 	for (size_t k = 0; k < NUMBERS; k++)
-		if (strlen(NAMES[k]) == len && strncmp(option + 2, NAMES[k], len) == 0) {
-			w->given = 1;
+		if (strcmp(name, NAMES[k]) == 0) {
 			w->block_given |= k == 0;
-			return parse_number(value + 1, number(&w->plan, k));
+			return parse_number(value, number(&w->plan, k));
 		}
-	return NOT_OURS;
+	return FAILED;
 }
 
 /* The version's own length: the shortest block that is not refused 8. */
@@ -75,8 +68,9 @@ static size_t shortest_block(slp_plan p)
 	return p.block;
 }
 
-int show_room(room_wish w)
+int show_room(const request *q)
 {
+	room_wish w = q->room;
 	slp_plan *p = &w.plan;
 	if (!w.block_given)
 		p->block = shortest_block(*p);

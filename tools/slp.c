@@ -1,44 +1,63 @@
-/* slp: walks Slippi replays, checks them, lists their events, shows their metadata and frames, finds a frame, writes them again, whole or their final frames only, writes a small
- * one, says how much
- * room to reserve. */
+/* slp: walks Slippi replays, checks them, lists their events, shows their metadata and frames, finds a frame, writes them again, whole or their
+ * final frames only, writes a small one, says how much room to reserve. */
 #include <errno.h>
+#include <fcntl.h>
+#include <getopt.h>
+#include <signal.h>
 #include <stdio.h>
+#include <stdlib.h>
 #include <string.h>
+#include <unistd.h>
 
 #include "tool.h"
 
-static const char HELP[] =
+static const char HELP_COMMANDS[] =
 	"slp: Slippi replays, whole or cut\n"
 	"\n"
-	"  slp walk FILE..     a line for each replay: EVENTS STRAY whole|cut, or refused NUMBER OFFSET;\n"
-	"                      with several files after 'FILE: '\n"
-	"  slp check FILE..    whether each replay is sound, whoever wrote it: sound, or NUMBER: why, and at which\n"
-	"                      byte where there is one; with several files after 'FILE: ', and how many are\n"
-	"  slp events FILE     how many events of each code a replay has, and their bytes\n"
-	"  slp meta FILE       the metadata of a replay: its map, an entry a line, maps inside it further in\n"
-	"  slp table FILE      the frames of a replay as CSV: a line for each frame and player who is in it\n"
-	"  slp index FILE..    writes FILE.spx beside each replay, which says where its frames stand; it is never\n"
-	"                      written over another file\n"
-	"  slp find FILE ID    the last frame of an id: its row, offset and time; through FILE.spx where that is the\n"
-	"                      replay's index, else by a walk, which is said on standard error\n"
-	"  slp resave IN OUT   reads a replay into columns and writes it again; OUT must not exist yet\n"
-	"  slp final IN OUT    the same of the final frames only: of each frame id the last row; says how many rows\n"
-	"                      were dropped\n"
-	"  slp demo FILE       writes a small game and walks it; FILE must not exist yet\n"
-	"  slp room OPTION..   how many bytes to reserve for a replay before its match is known\n"
+	"  slp walk FILE..     a line for each replay: EVENTS STRAY whole|cut, or\n"
+	"                      refused NUMBER OFFSET; with several files after 'FILE: '\n"
+	"  slp check FILE..    whether each replay is sound, whoever wrote it: sound, or\n"
+	"                      NUMBER: why, and at which byte where there is one; with\n"
+	"                      several files after 'FILE: ', and how many are sound\n"
+	"  slp events FILE     how many events of each code a replay has, their bytes\n"
+	"  slp meta FILE       the metadata of a replay: its map, an entry a line, maps\n"
+	"                      inside it further in\n"
+	"  slp table FILE      the frames of a replay as CSV: a line for each frame and\n"
+	"                      player who is in it\n"
+	"  slp index FILE..    writes FILE.spx beside each replay, which says where its\n"
+	"                      frames stand; another file of that name stays\n"
+	"  slp find FILE ID    the last frame of an id: its row, offset and time; by\n"
+	"                      FILE.spx where that is the replay's index, else by a\n"
+	"                      walk, which is said on standard error\n"
+	"  slp resave IN OUT   reads a replay into columns and writes it again\n"
+	"  slp final IN OUT    the same of the final frames only: of each frame id the\n"
+	"                      last row; says how many rows were dropped\n"
+	"  slp demo OUT        writes a small game and walks it\n"
+	"  slp room OPTION..   how many bytes to reserve for a replay before its match\n"
+	"                      is known\n"
 	"  slp help            this text (also --help, -h)\n"
-	"  slp version         the tool's version, and the newest replay version (also --version)\n"
+	"  slp version         the tool's version, and the newest replay version (also\n"
+	"                      --version)\n"
+	"\n";
+
+static const char HELP_OPTIONS[] =
+	"A FILE or IN of - is standard input, an OUT of - standard output. After --\n"
+	"nothing is an option. An option's value may follow it as a word of its own,\n"
+	"and its name may be shortened as long as it is clear.\n"
 	"\n"
-	"A FILE or IN of - is standard input; an OUT of -, and for demo a FILE, is standard output. After --\n"
-	"nothing is an option.\n"
-	"\n"
-	"  --progress=WHEN     a bar on standard error: auto (on a terminal, from 64 MB on), always, never\n"
+	"  --force             an OUT or FILE.spx that is there is replaced, also where\n"
+	"                      OUT is IN; without it, OUT must not exist yet, and - must\n"
+	"                      not be a terminal\n"
 	"  --final             table: the last row of each frame id alone\n"
+	"  --progress=WHEN     a bar on standard error: auto (on a terminal, from 64 MB\n"
+	"                      on), always, never\n"
 	"\n"
-	"What room is asked for, as --NAME=NUMBER; all but replay and block are 0 where they are not given:\n"
+	"What room is asked for; all but replay and block are 0 where they are not\n"
+	"given:\n"
 	"\n"
-	"  --replay=VERSION    the replay's version, as 3.18.0 (where it is not given, that)\n"
-	"  --block=BYTES       of the start block (where it is not given, the version's own length)\n"
+	"  --replay=VERSION    the replay's version (where it is not given, 3.18.0)\n"
+	"  --block=BYTES       of the start block (where it is not given, the version's\n"
+	"                      own length)\n"
 	"  --slots=N           players, followers among them: at most 8\n"
 	"  --frames=N          60 a second\n"
 	"  --items=N --fods=N --whispys=N --stadiums=N\n"
@@ -46,169 +65,247 @@ static const char HELP[] =
 	"  --codes=BYTES --metadata=BYTES\n"
 	"                      of the padded cheat codes, and of the metadata's body\n"
 	"\n"
-	"No replay of that version with at most these counts is longer than what room answers.\n"
-	"\n"
-	"EVENTS counts the whole events after the table of payload sizes, STRAY the bytes after the last of\n"
-	"them; whole means that all declared bytes are there. Reasons in words go to standard error. A length\n"
-	"of zero was never filled in: such a replay is read to its end, and is cut.\n"
-	"\n"
-	"A row of find is counted from 0 in file order; the offset is that of the frame's first event; the time is\n"
-	"that of the id, 60 frames a second from frame 0 on, as minutes:seconds.\n"
-	"\n"
-	"A table has the frame's id, the port (0 to 3), 1 for a follower or 0, and the columns of Pre and Post\n"
-	"that the version has; floats are shown as the shortest number that is the same float. resave says whether\n"
-	"OUT is the same as IN, byte for byte; what stands after the event data and is no metadata is left out.\n"
-	"\n"
-	"Exit status: 0 if all went well and every replay is whole, for check sound; 1 if a replay or a plan was\n"
-	"refused, a replay cut, or a file could not be read or written; 2 for wrong usage.\n";
+	"No replay of that version with at most these counts is longer than what room\n"
+	"answers.\n"
+	"\n";
 
+static const char HELP_WORDS[] =
+	"EVENTS counts the whole events after the table of payload sizes, STRAY the\n"
+	"bytes after the last of them; whole means that all declared bytes are there.\n"
+	"Reasons in words go to standard error. A length of zero was never filled in:\n"
+	"such a replay is read to its end, and is cut.\n"
+	"\n"
+	"A row of find is counted from 0 in file order; the offset is that of the\n"
+	"frame's first event; the time is that of the id, 60 frames a second from frame\n"
+	"0 on, as minutes:seconds.\n"
+	"\n"
+	"A table has the frame's id, the port, 1 for a follower or 0, 1 for a frame that\n"
+	"a later one of the same id replaced or 0, and the columns of Pre and Post that\n"
+	"the version has; floats are shown as the shortest decimal that reads back as\n"
+	"the same float. Ports are numbered 0 to 3, as in the file: port 0 is the\n"
+	"console's first socket.\n"
+	"\n"
+	"An OUT gets its name when all of it is on the disk. resave says whether it is\n"
+	"the same as IN, byte for byte; what stands after the event data and is no\n"
+	"metadata is left out.\n"
+	"\n"
+	"Names and texts are shown on one line: what is no printable UTF-8 as \\xNN, and\n"
+	"a name that has such a byte, or a colon and a space, in quotes.\n"
+	"\n"
+	"Exit status: 0 if all went well and every replay is whole, for check sound; 1\n"
+	"if a replay or a plan was refused, a replay cut, or a file could not be read or\n"
+	"written; 2 for wrong usage.\n";
+
+static int print_help(const request *q)
+{
+	(void)q;
+	fputs(HELP_COMMANDS, stdout);
+	fputs(HELP_OPTIONS, stdout);
+	fputs(HELP_WORDS, stdout);
+	return WELL;
+}
+
+static int print_version(const request *q)
+{
+	(void)q;
+	puts("slp " TOOL_VERSION ", replays to version 3.18.0");
+	return WELL;
+}
+
+/* What getopt_long gives for an option. From FORCE on they are for some commands alone, each a bit of what a command takes. */
+enum { ASKED_HELP = 'h', ASKED_VERSION = 256, PROGRESS, FORCE, FINAL, ROOM, OPTIONS_END };
+#define TAKES(option) (1u << ((option) - FORCE))
+
+static const struct option OPTIONS[] = {
+	{ "help", no_argument, NULL, ASKED_HELP },
+	{ "version", no_argument, NULL, ASKED_VERSION },
+	{ "progress", required_argument, NULL, PROGRESS },
+	{ "force", no_argument, NULL, FORCE },
+	{ "final", no_argument, NULL, FINAL },
+	{ "replay", required_argument, NULL, ROOM },
+	{ "block", required_argument, NULL, ROOM },
+	{ "slots", required_argument, NULL, ROOM },
+	{ "frames", required_argument, NULL, ROOM },
+	{ "items", required_argument, NULL, ROOM },
+	{ "fods", required_argument, NULL, ROOM },
+	{ "whispys", required_argument, NULL, ROOM },
+	{ "stadiums", required_argument, NULL, ROOM },
+	{ "codes", required_argument, NULL, ROOM },
+	{ "metadata", required_argument, NULL, ROOM },
+	{ NULL, 0, NULL, 0 },
+};
+
+/* A command: how many files it takes, that in words, which options of some commands, and whether its last file is an OUT. */
 typedef struct {
-	int progress, help, version, final;
-	room_wish room;
-	char **operands;
-	int count;
+	const char *name;
+	int (*run)(const request *q);
+	int least, most;
+	const char *files;
+	unsigned takes;
+	int saves;
+} command;
+
+enum { ANY = 1 << 30 };
+
+static const command COMMANDS[] = {
+	{ "walk", walk_files, 1, ANY, "needs a file", 0, 0 },
+	{ "check", check_files, 1, ANY, "needs a file", 0, 0 },
+	{ "events", show_events, 1, 1, "needs one file", 0, 0 },
+	{ "meta", show_metadata, 1, 1, "needs one file", 0, 0 },
+	{ "table", show_table, 1, 1, "needs one file", TAKES(FINAL), 0 },
+	{ "index", index_files, 1, ANY, "needs a file", TAKES(FORCE), 0 },
+	{ "find", find_frame, 2, 2, "needs a file and a frame's id", 0, 0 },
+	{ "resave", resave, 2, 2, "needs two files", TAKES(FORCE), 1 },
+	{ "final", write_final_frames, 2, 2, "needs two files", TAKES(FORCE), 1 },
+	{ "demo", write_demo, 1, 1, "needs one file", TAKES(FORCE), 1 },
+	{ "room", show_room, 0, 0, "takes no file", TAKES(ROOM), 0 },
+	{ "help", print_help, 0, 0, "takes no file", 0, 0 },
+	{ "version", print_version, 0, 0, "takes no file", 0, 0 },
+};
+
+/* What the words of the command line ask for; by each option of some commands, its name where it was given. */
+typedef struct {
+	request q;
+	int help, version;
+	const char *given[OPTIONS_END - FORCE];
 } arguments;
 
-static int wrong_usage(const char *what, const char *which)
+static int try_help(void)
 {
-	fprintf(stderr, "slp: %s%s%s\nTry 'slp --help'.\n", what, *which ? " " : "", which);
+	fputs("Try 'slp --help'.\n", stderr);
 	return WRONG_USAGE;
 }
 
-static int parse_progress(const char *when, arguments *a)
+int wrong_usage(const char *what, const char *which)
+{
+	fprintf(stderr, "slp: %s", what);
+	if (which) {
+		fputc(' ', stderr);
+		put_name(stderr, which);
+	}
+	fputc('\n', stderr);
+	return try_help();
+}
+
+static int parse_progress(const char *when, request *q)
 {
 	static const char *const names[] = { [PROGRESS_AUTO] = "auto", [PROGRESS_ALWAYS] = "always", [PROGRESS_NEVER] = "never" };
 	for (int i = 0; i < 3; i++)
 		if (strcmp(when, names[i]) == 0) {
-			a->progress = i;
+			q->progress = i;
 			return WELL;
 		}
 	return wrong_usage("--progress is auto, always or never, not", when);
 }
 
-static int parse_room(const char *option, arguments *a)
+static int parse_room(const char *name, const char *value, request *q)
 {
-	switch (room_option(option, &a->room)) {
-	case WELL: return WELL;
-	case FAILED: return wrong_usage(strncmp(option, "--replay=", 9) == 0 ? "not a version, as 3.18.0 is:" : "not a number, or too large:", option);
-	default: return wrong_usage("unknown option", option);
+	if (room_option(name, value, &q->room) == WELL)
+		return WELL;
+	fprintf(stderr, "slp: --%s: ", name);
+	put_name(stderr, value);
+	fputs(strcmp(name, "replay") == 0 ? " is no version, as 3.18.0 is\n" : " is no number, or too large\n", stderr);
+	return try_help();
+}
+
+/* An option that getopt_long found, by its full name. */
+static int take_option(int option, const char *name, arguments *a)
+{
+	if (option >= FORCE)
+		a->given[option - FORCE] = name;
+	switch (option) {
+	case ASKED_HELP: a->help = 1; return WELL;
+	case ASKED_VERSION: a->version = 1; return WELL;
+	case PROGRESS: return parse_progress(optarg, &a->q);
+	case FORCE: a->q.force = 1; return WELL;
+	case FINAL: a->q.final = 1; return WELL;
+	case ROOM: return parse_room(name, optarg, &a->q);
+	default: return opterr ? try_help() : wrong_usage("an option that is not known, or not as it should be", NULL);
 	}
 }
 
-static int parse_option(const char *option, arguments *a)
+/* No option begins with a digit, but a number may begin with a sign. */
+static int is_operand(const char *word)
 {
-	if (strcmp(option, "--help") == 0 || strcmp(option, "-h") == 0)
-		a->help = 1;
-	else if (strcmp(option, "--version") == 0)
-		a->version = 1;
-	else if (strcmp(option, "--final") == 0)
-		a->final = 1;
-	else if (strncmp(option, "--progress=", 11) == 0)
-		return parse_progress(option + 11, a);
-	else
-		return parse_room(option, a);
+	return word[0] != '-' || word[1] == 0 || (word[1] >= '0' && word[1] <= '9');
+}
+
+/* Options may stand anywhere before --; what stays are operands, in their order, which take the places of words that were looked at before. */
+static int sort_words(int argc, char **argv, arguments *a)
+{
+	int index = 0, option = 0;
+	a->q.files = argv + 1;
+	while (optind < argc)
+		if (option == -1 || is_operand(argv[optind]))
+			a->q.files[a->q.count++] = argv[optind++];
+		else if ((option = getopt_long(argc, argv, "+h", OPTIONS, &index)) != -1 && take_option(option, OPTIONS[index].name, a) != WELL)
+			return WRONG_USAGE;
 	return WELL;
 }
 
-/* The id of a frame may have a sign, and no option begins with a digit. */
-static int is_number(const char *word)
-{
-	return *word >= '0' && *word <= '9';
-}
-
-/* Sorts the options out; what stays are operands, in their order. */
+/* getopt_long's own messages show a word as it is, so they are left out where one is not plain. */
 static int parse(int argc, char **argv, arguments *a)
 {
-	int only_operands = 0;
-	a->operands = argv + 1;
-	for (int i = 1; i < argc; i++) {
-		char *word = argv[i];
-		if (only_operands || word[0] != '-' || word[1] == 0 || is_number(word + 1))
-			a->operands[a->count++] = word;
-		else if (strcmp(word, "--") == 0)
-			only_operands = 1;
-		else if (parse_option(word, a) != WELL)
-			return WRONG_USAGE;
-	}
-	return WELL;
+	static char name[] = "slp";
+	if (argc > 0)
+		argv[0] = name;
+	for (int i = 1; i < argc; i++)
+		opterr = opterr && plain((const uint8_t *)argv[i], strlen(argv[i]));
+	return sort_words(argc, argv, a);
 }
 
-static int print_version(void)
+static const command *find_command(const char *name)
 {
-	puts("slp " TOOL_VERSION ", replays to version 3.18.0");
-	return WELL;
+	for (size_t i = 0; i < sizeof COMMANDS / sizeof *COMMANDS; i++)
+		if (strcmp(COMMANDS[i].name, name) == 0)
+			return &COMMANDS[i];
+	return NULL;
 }
 
-static int print_help(void)
+static int wrong_for(const command *c, const char *what, const char *which)
 {
-	fputs(HELP, stdout);
-	return WELL;
+	fprintf(stderr, "slp: %s %s%s\n", c->name, what, which);
+	return try_help();
 }
 
-/* An index stands beside its replay, so the replay has a name. */
-static int run_index(char **files, int count, int progress)
+static int run(arguments *a)
 {
-	for (int i = 0; i < count; i++)
-		if (strcmp(files[i], "-") == 0)
-			return wrong_usage("index needs files with a name, not", "-");
-	return count ? index_files(files, count, progress) : wrong_usage("index needs a file", "");
-}
-
-static int run_find(char **files, int count, int progress)
-{
-	int32_t id;
-	if (count != 2)
-		return wrong_usage("find needs a file and a frame's id", "");
-	return parse_id(files[1], &id) == WELL ? find_frame(files[0], id, progress) : wrong_usage("not a frame's id:", files[1]);
-}
-
-static int run(const arguments *a)
-{
+	request *q = &a->q;
 	if (a->help)
-		return print_help();
+		return print_help(q);
 	if (a->version)
-		return print_version();
-	if (a->count == 0)
-		return wrong_usage("no command", "");
-	const char *command = a->operands[0];
-	char **files = a->operands + 1;
-	int count = a->count - 1;
-	if (a->final && strcmp(command, "table") != 0)
-		return wrong_usage("--final is not for", command);
-	if (strcmp(command, "room") == 0)
-		return count ? wrong_usage("room takes options alone, not", files[0]) : show_room(a->room);
-	if (a->room.given)
-		return wrong_usage("the options of room are not for", command);
-	if (strcmp(command, "help") == 0)
-		return print_help();
-	if (strcmp(command, "version") == 0)
-		return print_version();
-	if (strcmp(command, "walk") == 0)
-		return count ? walk_files(files, count, a->progress) : wrong_usage("walk needs a file", "");
-	if (strcmp(command, "check") == 0)
-		return count ? check_files(files, count, a->progress) : wrong_usage("check needs a file", "");
-	if (strcmp(command, "events") == 0)
-		return count == 1 ? show_events(files[0], a->progress) : wrong_usage("events needs one file", "");
-	if (strcmp(command, "meta") == 0)
-		return count == 1 ? show_metadata(files[0]) : wrong_usage("meta needs one file", "");
-	if (strcmp(command, "table") == 0)
-		return count == 1 ? show_table(files[0], a->final, a->progress) : wrong_usage("table needs one file", "");
-	if (strcmp(command, "index") == 0)
-		return run_index(files, count, a->progress);
-	if (strcmp(command, "find") == 0)
-		return run_find(files, count, a->progress);
-	if (strcmp(command, "resave") == 0)
-		return count == 2 ? resave(files[0], files[1], a->progress) : wrong_usage("resave needs two files", "");
-	if (strcmp(command, "final") == 0)
-		return count == 2 ? write_final_frames(files[0], files[1], a->progress) : wrong_usage("final needs two files", "");
-	if (strcmp(command, "demo") == 0)
-		return count == 1 ? write_demo(files[0]) : wrong_usage("demo needs one file", "");
-	return wrong_usage("unknown command", command);
+		return print_version(q);
+	if (q->count == 0)
+		return wrong_usage("no command", NULL);
+	const command *c = find_command(q->files[0]);
+	if (!c)
+		return wrong_usage("unknown command", q->files[0]);
+	q->files++;
+	q->count--;
+	for (int option = FORCE; option < OPTIONS_END; option++)
+		if (a->given[option - FORCE] && !(c->takes & TAKES(option)))
+			return wrong_for(c, "has no option --", a->given[option - FORCE]);
+	if (q->count < c->least || q->count > c->most)
+		return wrong_for(c, c->files, "");
+	if (c->saves && savable(q->files[q->count - 1], q->force) != WELL)
+		return FAILED;
+	return c->run(q);
+}
+
+/* A file must not become one of the standard three. What is closed of them stays what cannot be read or written, but for messages. */
+static void open_standard(void)
+{
+	static const int modes[] = { O_WRONLY, O_RDONLY, O_WRONLY };
+	for (int fd = 0; fd < 3; fd++)
+		if (fcntl(fd, F_GETFD) < 0 && open("/dev/null", modes[fd]) != fd)
+			exit(FAILED);
 }
 
 int main(int argc, char **argv)
 {
-	arguments a = { .room = { .plan = { .version = { 3, 18, 0 } } } };
+	arguments a = { .q = { .room = { .plan = { .version = { 3, 18, 0 } } } } };
+	open_standard();
+	signal(SIGXFSZ, SIG_IGN);   /* then a file over its limit is an error like a full disk */
 	int status = parse(argc, argv, &a);
 	if (status == WELL)
 		status = run(&a);

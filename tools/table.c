@@ -1,10 +1,10 @@
 /* slp table: the frames of a replay as CSV, a line for each frame and player who is in it; with --final the last row of each id alone. */
-#include <math.h>
 #include <stdio.h>
 #include <stdlib.h>
 #include <string.h>
 #include <unistd.h>
 
+#include "shortest.h"
 #include "tool.h"
 
 /* How a cell is shown: as a number, as one with a sign in its lowest byte, or as a float. */
@@ -72,29 +72,21 @@ static const column POST[SLP_POST_COLUMNS] = {
 	[SLP_POST_INSTANCE_ID] = { "post_instance_id", WHOLE },
 };
 
-/* The shortest number that is this float again. */
-static void print_float(uint32_t bits)
-{
-	float value;
-	char text[32];
-	memcpy(&value, &bits, sizeof value);
-	if (isnan(value)) {
-		fputs("nan", stdout);
-		return;
-	}
-	for (int digits = 6; digits <= 9; digits++) {
-		snprintf(text, sizeof text, "%.*g", digits, (double)value);
-		if (strtof(text, NULL) == value)
-			break;
-	}
-	fputs(text, stdout);
-}
+/* A replay, how many columns its version has, the mask of its frames which a later one of the same id replaced, NULL where there is none, and
+ * whether they are passed over. */
+typedef struct {
+	replay replay;
+	size_t pre, post;
+	uint8_t *replaced;
+	int final;
+} table;
 
 static void print_cell(kind as, uint32_t cell)
 {
+	char text[SHORTEST_ROOM];
 	putchar(',');
 	if (as == REAL)
-		print_float(cell);
+		fwrite(text, 1, shortest(cell, text), stdout);
 	else if (as == SIGNED)
 		printf("%d", (int)(int8_t)(uint8_t)cell);
 	else
@@ -115,38 +107,40 @@ static void print_cells(const column *columns, size_t n, const uint32_t *cells, 
 }
 
 /* A line, where the slot's player is in the frame. */
-static void print_player(const replay *r, size_t slot, uint8_t port, int follower, size_t i)
+static void print_player(const table *t, size_t slot, uint8_t port, int follower, size_t i)
 {
-	const slp_frames *f = &r->opened.game.frames;
-	size_t frames = f->counts.frames, pre = slp_columns(f->version, SLP_FAMILY_PRE), post = slp_columns(f->version, SLP_FAMILY_POST);
+	const replay *r = &t->replay;
+	size_t frames = r->opened.game.frames.counts.frames;
 	const uint8_t *bits = r->space.presence.p + slot * ((frames + 7) / 8);
 	if (!(bits[i / 8] >> i % 8 & 1))
 		return;
-	printf("%ld,%u,%d", (long)(int32_t)r->space.ids.p[i], port, follower);
-	print_cells(PRE, pre, r->space.pres.p + slot * pre * frames + i, frames);
-	print_cells(POST, post, r->space.posts.p + slot * post * frames + i, frames);
+	printf("%ld,%u,%d,", (long)(int32_t)r->space.ids.p[i], port, follower);
+	if (t->replaced)
+		putchar('0' + t->replaced[i]);
+	print_cells(PRE, t->pre, r->space.pres.p + slot * t->pre * frames + i, frames);
+	print_cells(POST, t->post, r->space.posts.p + slot * t->post * frames + i, frames);
 	putchar('\n');
 }
 
-static void print_frame(const replay *r, size_t i)
+static void print_frame(const table *t, size_t i)
 {
-	const slp_frames *f = &r->opened.game.frames;
+	const slp_frames *f = &t->replay.opened.game.frames;
 	size_t slot = 0;
 	for (size_t p = 0; p < f->port_count; p++) {
-		print_player(r, slot++, f->ports[p].port, 0, i);
+		print_player(t, slot++, f->ports[p].port, 0, i);
 		if (f->ports[p].follower)
-			print_player(r, slot++, f->ports[p].port, 1, i);
+			print_player(t, slot++, f->ports[p].port, 1, i);
 	}
 }
 
-/* Rows that have 1 in the mask are passed over. The bar goes by the file's bytes, as if each frame had as many. */
-static void print_frames(const replay *r, const uint8_t *mask)
+/* The bar goes by the file's bytes, as if each frame had as many. */
+static void print_frames(const table *t)
 {
-	size_t frames = r->opened.game.frames.counts.frames, done = 0;
+	size_t frames = t->replay.opened.game.frames.counts.frames, done = 0;
 	for (size_t i = 0; i < frames && !ferror(stdout); i++) {
-		if (!mask[i])
-			print_frame(r, i);
-		size_t now = (size_t)((uint64_t)r->file.len * (i + 1) / frames);
+		if (!t->final || !t->replaced[i])
+			print_frame(t, i);
+		size_t now = (size_t)((uint64_t)t->replay.file.len * (i + 1) / frames);
 		progress_add(now - done);
 		done = now;
 	}
@@ -158,49 +152,55 @@ static int bar_beside(int progress)
 	return progress == PROGRESS_AUTO && isatty(STDOUT_FILENO) ? PROGRESS_NEVER : progress;
 }
 
-static void print_table(const replay *r, const uint8_t *mask, int progress)
+/* The mask. Of ids that no game has there is none: they are out of slp_rollbacks's range. The final frames alone are refused then. */
+static int find_replaced(const char *name, table *t)
 {
-	slp_version v = r->opened.game.frames.version;
-	fputs("id,port,follower", stdout);
-	print_names(PRE, slp_columns(v, SLP_FAMILY_PRE));
-	print_names(POST, slp_columns(v, SLP_FAMILY_POST));
+	const replay *r = &t->replay;
+	size_t frames = r->opened.game.frames.counts.frames, marks = SLP_LAST_FRAME_ID - SLP_FIRST_FRAME_ID + 1;
+	uint8_t *scratch = malloc(marks);
+	t->replaced = calloc(frames + 1, 1);
+	if (!scratch || !t->replaced) {
+		free(scratch);
+		complain(name, "no memory");
+		return FAILED;
+	}
+	unsigned refused = slp_rollbacks(r->space.ids.p, frames, SLP_EXCEPT_LAST, t->replaced, frames, scratch, marks);
+	free(scratch);
+	if (refused && t->final) {
+		complain(name, "refused %u: %s", refused, refusal_words(refused));
+		return FAILED;
+	}
+	if (refused) {
+		complain(name, "which frames were replaced is left open: %s", refusal_words(refused));
+		free(t->replaced);
+		t->replaced = NULL;
+	}
+	return WELL;
+}
+
+static void print_table(const table *t, int progress)
+{
+	fputs("id,port,follower,replaced", stdout);
+	print_names(PRE, t->pre);
+	print_names(POST, t->post);
 	putchar('\n');
-	progress_begin(bar_beside(progress), "table", r->file.len);
-	print_frames(r, mask);
+	progress_begin(bar_beside(progress), "table", t->replay.file.len);
+	print_frames(t);
 	progress_clear();
 }
 
-/* A mask of the rows that another follows with the same id, or, where all rows are asked for, of none: to be freed, or NULL after words on standard
- * error. */
-static uint8_t *rows_to_pass(const char *name, const replay *r, int final)
+int show_table(const request *q)
 {
-	size_t frames = r->opened.game.frames.counts.frames;
-	uint8_t *mask = calloc(frames + 1, 1), *scratch = malloc(SLP_MAX_FRAMES);
-	unsigned refused = 0;
-	if (!mask || !scratch)
-		complain(name, "no memory");
-	else if (final)
-		refused = slp_rollbacks(r->space.ids.p, frames, SLP_EXCEPT_LAST, mask, frames, scratch, SLP_MAX_FRAMES);
-	if (refused)
-		complain(name, "refused %u: %s", refused, refusal_words(refused));
-	if (refused || !scratch) {
-		free(mask);
-		mask = NULL;
-	}
-	free(scratch);
-	return mask;
-}
-
-int show_table(const char *path, int final, int progress)
-{
-	replay r;
-	if (open_replay(path, progress, &r) != WELL)
+	table t = { .final = q->final };
+	if (open_replay(q->files[0], q->progress, &t.replay) != WELL)
 		return FAILED;
-	uint8_t *mask = rows_to_pass(input_name(path), &r, final);
-	int status = mask ? WELL : FAILED;
-	if (mask)
-		print_table(&r, mask, progress);
-	free(mask);
-	close_replay(&r);
+	slp_version v = t.replay.opened.game.frames.version;
+	t.pre = slp_columns(v, SLP_FAMILY_PRE);
+	t.post = slp_columns(v, SLP_FAMILY_POST);
+	int status = find_replaced(input_name(q->files[0]), &t);
+	if (status == WELL)
+		print_table(&t, q->progress);
+	free(t.replaced);
+	close_replay(&t.replay);
 	return status;
 }

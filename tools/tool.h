@@ -3,11 +3,41 @@
 #define TOOL_H
 
 #include <slp.h>
+#include <stdio.h>
 
 /* Exit statuses. */
 enum { WELL = 0, FAILED = 1, WRONG_USAGE = 2 };
 
-/* ---- words.c */
+/* What is asked of `slp room`: the plan, and whether its block was given. */
+typedef struct {
+	slp_plan plan;
+	int block_given;
+} room_wish;
+
+/* What is asked of a command: its files in their order, and the options. */
+typedef struct {
+	char **files;
+	int count;
+	int progress;   /* PROGRESS_.. */
+	int force;      /* an OUT that is there may be replaced */
+	int final;      /* the last row of each frame id alone */
+	room_wish room;
+} request;
+
+/* ---- slp.c: what is wrong with the command line, and with which word of it, or NULL; WRONG_USAGE */
+
+int wrong_usage(const char *what, const char *which);
+
+/* ---- text.c: what others wrote, on one line and never as commands to a terminal */
+
+/* Whether a text is shown as it is: printable UTF-8 without quotes and backslashes. */
+int plain(const uint8_t *text, size_t len);
+/* A text in quotes, what is not plain in it as \xNN. */
+void put_text(FILE *to, const uint8_t *text, size_t len);
+/* A file's name: as it is where it is plain and could not be taken for a name and what is said of it, else as a text. */
+void put_name(FILE *to, const char *name);
+
+/* ---- words.c: messages; names in them are shown by put_name */
 
 /* Why a call was refused, in words. */
 const char *refusal_words(unsigned number);
@@ -15,6 +45,11 @@ const char *refusal_words(unsigned number);
 const char *event_name(uint8_t code);
 /* What to call a file in messages: - is standard input or output. */
 const char *input_name(const char *path);
+const char *output_name(const char *path);
+/* "NAME: " on standard output, before what is said of one of several files. */
+void print_prefix(const char *name);
+/* "wrote NAME: LEN bytes" without a line's end, on standard output, or on standard error where the file itself is there; where the rest goes. */
+FILE *say_wrote(const char *path, size_t len);
 /* "slp: NAME: REASON" on standard error, after all that was printed before. */
 void complain(const char *name, const char *format, ...) __attribute__((format(printf, 2, 3)));
 /* A reader's refusal. */
@@ -34,20 +69,31 @@ typedef struct {
 	size_t len;
 } content;
 
-/* A replay up to the end of its event data, in memory to be freed; after it nothing changes what the reader says. What is no replay is not
- * read on. 0, or an errno. */
-int load(const char *path, content *c);
-/* The same, and what stands after its event data, up to `more` bytes. */
+/* A replay up to the end of its event data, and of what stands after that up to `more` bytes, in memory to be freed. What is no replay is not
+ * read on, and a long one not much further than where slp_walk refuses it. 0, or an errno. */
 int load_more(const char *path, size_t more, content *c);
-/* The longest tail that has metadata: its key, a body and two braces. Of a longer one a byte more is enough to see that it has none. */
-enum { LONGEST_TAIL = 11 + SLP_MAX_METADATA + 2 };
 /* How many bytes files have, as far as that is known before reading. */
 uint64_t total_size(char **paths, int count);
 
+/* ---- tail.c: what stands after the event data */
+
+/* The metadata's key, a body and two braces. Of a longer tail a byte more is enough to see that it has none. */
+enum { TAIL_KEY = 11, TAIL_BRACES = 2, LONGEST_TAIL = TAIL_KEY + SLP_MAX_METADATA + TAIL_BRACES };
+
+/* SLP_FILE_TAIL_..; where it is metadata, the body is the tail but for TAIL_KEY bytes and the braces. */
+int tail_kind(const uint8_t *tail, size_t len);
+/* Where a walk was refused, and all that is left of the file from that byte on is a proper tail: that the length field is wrong, and how. The
+ * file was loaded with LONGEST_TAIL + 1 bytes more. */
+void complain_length(const char *name, const content *c, unsigned number, size_t offset);
+
 /* ---- save.c */
 
-/* A new file, so that no replay is written over; - is standard output. 0, or an errno. */
-int save(const char *path, const uint8_t *bytes, size_t len);
+/* Whether a replay may be saved at a path: - is standard output, and no terminal; elsewhere nothing may stand that is not to be replaced. WELL,
+ * or FAILED after words on standard error. Asked of an OUT before its command is run. */
+int savable(const char *path, int force);
+/* Saves a file so that its name has all of it or what it had before, whatever happens meanwhile, and that it is on the disk when this is done. 0, or
+ * an errno. */
+int save(const char *path, int force, const uint8_t *bytes, size_t len);
 
 /* ---- open.c */
 
@@ -63,7 +109,7 @@ typedef struct {
 /* WELL, or FAILED after words on standard error. */
 int open_replay(const char *path, int progress, replay *r);
 void close_replay(replay *r);
-/* Why a replay is refused: 14 to 17 have a place. Of one that is cut, how much of it there is. */
+/* Why a replay is refused: 14 to 17 have a place. Of one that is cut, how much of it there is. It was loaded with LONGEST_TAIL + 1 bytes more. */
 void complain_unread(const char *name, const content *c, unsigned number, size_t offset);
 
 /* ---- index.c */
@@ -72,18 +118,17 @@ void complain_unread(const char *name, const content *c, unsigned number, size_t
 char *index_name(const char *path);
 /* All of an index, in memory to be freed. 0, or an errno. */
 int load_index(const char *path, content *c);
-/* The index of a replay by a walk, in memory to be freed: WELL, or FAILED after words on standard error. */
+/* The index of a replay by a walk, in memory to be freed: WELL, or FAILED after words on standard error. Loaded as for complain_unread. */
 int work_out_index(const char *name, const content *file, content *index);
 
 /* ---- resave.c: what writes a replay's columns again */
 
-const char *output_name(const char *path);
 /* That a tail is left out, where it is. */
 void warn_of_tail(const char *name, const replay *r);
 /* How many bytes no file of these columns exceeds. */
 size_t room_for(const replay *r);
 /* Saves the file that was written, or says why it was refused: WELL, or FAILED after words on standard error. */
-int save_written(const char *in, const char *out, slp_written w, const uint8_t *file, int progress);
+int save_written(const request *q, slp_written w, const uint8_t *file);
 
 /* ---- progress.c: a bar on standard error */
 
@@ -97,34 +142,21 @@ void progress_clear(void);
 
 /* ---- the commands: each gives the exit status */
 
-int walk_files(char **paths, int count, int progress);
-int check_files(char **paths, int count, int progress);
-int show_events(const char *path, int progress);
-int show_metadata(const char *path);
-/* With `final` the last row of each frame id alone. */
-int show_table(const char *path, int final, int progress);
-int resave(const char *in, const char *out, int progress);
-int write_final_frames(const char *in, const char *out, int progress);
-int write_demo(const char *path);
-int index_files(char **paths, int count, int progress);
-int find_frame(const char *path, int32_t id, int progress);
-
-/* ---- find.c: a whole number of 32 bits with its sign; WELL or FAILED */
-
-int parse_id(const char *text, int32_t *id);
+int walk_files(const request *q);
+int check_files(const request *q);
+int show_events(const request *q);
+int show_metadata(const request *q);
+int show_table(const request *q);
+int index_files(const request *q);
+int find_frame(const request *q);
+int resave(const request *q);
+int write_final_frames(const request *q);
+int write_demo(const request *q);
 
 /* ---- room.c */
 
-/* What is asked of `slp room`: the plan, whether any of its options was given, and whether its block was. */
-typedef struct {
-	slp_plan plan;
-	int given, block_given;
-} room_wish;
-
-enum { NOT_OURS = 3 };
-
-/* Takes --NAME=VALUE into a wish: WELL, FAILED for a value that is none, NOT_OURS for another option. */
-int room_option(const char *option, room_wish *w);
-int show_room(room_wish w);
+/* Takes the value of an option into a wish: WELL, or FAILED for a value that is none. */
+int room_option(const char *name, const char *value, room_wish *w);
+int show_room(const request *q);
 
 #endif

@@ -65,12 +65,34 @@ const char *input_name(const char *path)
 	return strcmp(path, "-") == 0 ? "standard input" : path;
 }
 
+const char *output_name(const char *path)
+{
+	return strcmp(path, "-") == 0 ? "standard output" : path;
+}
+
+void print_prefix(const char *name)
+{
+	put_name(stdout, name);
+	fputs(": ", stdout);
+}
+
+FILE *say_wrote(const char *path, size_t len)
+{
+	FILE *to = strcmp(path, "-") == 0 ? stderr : stdout;
+	fputs("wrote ", to);
+	put_name(to, output_name(path));
+	fprintf(to, ": %zu bytes", len);
+	return to;
+}
+
 void complain(const char *name, const char *format, ...)
 {
 	va_list rest;
 	progress_clear();
 	fflush(stdout);
-	fprintf(stderr, "slp: %s: ", name);
+	fputs("slp: ", stderr);
+	put_name(stderr, name);
+	fputs(": ", stderr);
 	va_start(rest, format);
 	vfprintf(stderr, format, rest);
 	va_end(rest);

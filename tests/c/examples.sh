@@ -10,6 +10,7 @@ bin=$1
 "$bin/walk_file" "$bin/game.slp"
 head -c 900 "$bin/game.slp" >"$bin/cut.slp"
 "$bin/walk_file" "$bin/cut.slp"
+rm -f "$bin/again.slp"
 "$bin/check_file" "$bin/game.slp" "$bin/cut.slp" || echo 'not all sound'
 "$bin/open_and_save" "$bin/game.slp" "$bin/again.slp"
 cmp "$bin/game.slp" "$bin/again.slp"
@@ -19,3 +20,5 @@ cmp "$bin/game.slp" "$bin/again.slp"
 "$bin/jump" "$bin/cut.slp" -123
 head -c 800 "$bin/game.slp" >"$bin/cut.slp"
 "$bin/jump" "$bin/cut.slp" -123 || echo 'no index'
+"$bin/open_and_save" "$bin/game.slp" "$bin/again.slp" || echo 'not saved over another'
+ls "$bin" | grep '\.tmp$' || true

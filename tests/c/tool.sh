@@ -1,11 +1,12 @@
 #!/bin/sh
 # Runs the tool and prints what it did: the command, its output, its errors after '!', its exit status after '='. Compared with tool.expected.
-#   tool.sh SLP DIRECTORY STORED     DIRECTORY is made anew; STORED is a stored replay of case 1
+#   tool.sh SLP DIRECTORY STORED POINTS     DIRECTORY is made anew; STORED is a stored replay of case 1; POINTS is the tool over points.c
 # $VALGRIND, where it is set, runs the commands that read and write most.
 set -u
 export LC_ALL=C
 slp=$(realpath "$1")
 stored=$(realpath "$3")
+points=$(realpath "$4")
 rm -rf "$2"
 mkdir -p "$2"
 cd "$2" || exit 2
@@ -59,10 +60,15 @@ patched() {
 run
 run --help
 "$slp" --help >long 2>&1
-for h in help -h; do "$slp" $h 2>&1 | cmp - long && echo "$h: the same"; done
+for h in help -h --he; do "$slp" $h 2>&1 | cmp - long && echo "$h: the same"; done
+awk 'length > 79' long
 run --version
 run version
+run version 3.18.0
+run help walk
 run --frob
+run --help=walk
+run --force walk game.slp
 run walk --frob game.slp
 run -x
 run frob
@@ -119,6 +125,20 @@ patched unknown.slp 808 '\231'
 patched overrun.slp 13 '\126\273'
 { cat game.slp; echo more; } >longer.slp
 for f in signature table twice unknown overrun longer; do run walk $f.slp; done
+# a length that is too high, where the events end and the tail begins: over the file's end, within its tail, with one brace; 17, as the code of the
+# brace is in the table; and where no tail ends the file
+patched high.slp 13 '\130\301'
+patched within.slp 13 '\126\301'
+{ head -c 22219 high.slp; printf '}'; } >brace.slp
+cp brace.slp overrun-brace.slp
+printf '}' | dd of=overrun-brace.slp bs=1 seek=44 conv=notrunc 2>/dev/null
+printf '\126\275' | dd of=overrun-brace.slp bs=1 seek=13 conv=notrunc 2>/dev/null
+{ cat high.slp; printf more; } >high-more.slp
+head -c 22296 high.slp >high-cut.slp
+for f in high within brace overrun-brace high-more high-cut; do run walk $f.slp; done
+for verb in check events meta table index; do "$slp" $verb high.slp 2>&1 >out | sed -n '$p'; done
+"$slp" find high.slp 0 2>&1 >out | sed -n '$p'
+"$slp" final high.slp never.slp 2>&1 >out | sed -n '$p'
 # a length that was never filled in: with the tail, at the end of the event data, cut, with a damaged table and with no table
 patched tail.slp 11 '\000\000\000\000'
 head -c 22219 tail.slp >unfilled.slp
@@ -134,6 +154,8 @@ run walk game.slp longer.slp
 from cut.slp walk game.slp -
 cp -- game.slp -odd.slp
 run walk -- -odd.slp
+cp -- game.slp -1.slp
+run walk -1.slp --progress never -- --progress=never
 run walk -odd.slp
 to /dev/full walk game.slp
 to /dev/full --help
@@ -192,10 +214,17 @@ head -n 3 table.csv | cut -d, -f1-13
 awk -F, '{ fields[NF]++ } END { for (n in fields) print fields[n], "lines of", n, "fields" }' table.csv
 from "$stored" table - | cut -d, -f1-8
 guarded table away.slp | cut -d, -f1-8 | sed -n '1,5p;$p'
-# 0.1, no number, minus zero and minus infinity; and -128
-patched floats.slp 834 '\075\314\314\315\177\300\000\000\200\000\000\000\377\200\000\000'
+# 0.1, no number, minus zero, minus infinity, the least float and the greatest subnormal with a sign; and -128
+patched floats.slp 834 '\075\314\314\315\177\300\000\000\200\000\000\000\377\200\000\000\000\000\000\001\200\177\377\377'
 printf '\200' | dd of=floats.slp bs=1 seek=880 conv=notrunc 2>/dev/null
-"$slp" table floats.slp | head -n 2 | cut -d, -f1-9,18
+"$slp" table floats.slp | head -n 2 | cut -d, -f1-12,19
+# the rows that a rollback replaced: four frames of two players
+awk -F, '$4 == 1 { print $1, $2 }' table.csv
+# a frame of an id that no game has, in all of its six records: then it is left open
+cp game.slp far.slp
+for at in 809 822 889 956 1041 1126; do printf '\177\377\377\377' | dd of=far.slp bs=1 seek=$at conv=notrunc 2>/dev/null; done
+to far.csv table far.slp
+sed -n '2,3p' far.csv | cut -d, -f1-5
 for f in newer order cut unfilled tail unknown signature missing; do run table $f.slp; done
 run table directory
 to /dev/full table game.slp
@@ -217,9 +246,6 @@ from "$stored" final - stored-last.slp
 cmp "$stored" stored-last.slp && echo "stored-last.slp: the same"
 guarded final longer.slp longer-last.slp
 to /dev/full final game.slp -
-# the first frame has an id that no mask takes, in all of its six records
-cp game.slp far.slp
-for at in 809 822 889 956 1041 1126; do printf '\000\020\000\000' | dd of=far.slp bs=1 seek=$at conv=notrunc 2>/dev/null; done
 for f in far newer order cut unfilled unknown signature missing; do run final $f.slp never-last.slp; done
 run final directory never-last.slp
 [ -e never-last.slp ] || echo 'never-last.slp: not there'
@@ -227,10 +253,10 @@ to last.csv table --final game.slp
 "$slp" table last.slp | cmp - last.csv && echo "last.csv: the table of last.slp"
 guarded table --final away.slp | cut -d, -f1-8 | sed -n '1,5p;$p'
 run table --final far.slp
-"$slp" table far.slp | head -n 2 | cut -d, -f1-5
 run walk --final game.slp
 run room --final
 run resave --final game.slp never-last.slp
+run final --final game.slp never-last.slp
 
 # ---- room
 guarded room --slots=2 --frames=28800 --items=20000
@@ -254,6 +280,8 @@ run room --replay=3.256.0
 run room --replay=3.18.0.1
 run room --frobs=1
 run room --frames
+run room --frames 28800 --it=20000 --slots 2
+run room --f 5
 run room game.slp
 run walk --frames=1 game.slp
 
@@ -322,12 +350,18 @@ run index other-cut.slp
 cp other-cut.slp.spx other.slp.spx
 guarded find other.slp -64
 run index other.slp
+cmp other-cut.slp.spx other.slp.spx && echo 'other.slp.spx: as before'
+run find --force other.slp -64
+guarded index --force other.slp
+cmp game.slp.spx other.slp.spx && echo 'other.slp.spx: the same'
+run index other.slp --force
 printf 'SPX' >other.slp.spx
 run find other.slp -64
 rm other.slp.spx
 mkdir other.slp.spx
 run find other.slp -64
 run index other.slp
+run index --force other.slp game.slp
 rmdir other.slp.spx
 # a cut has the first frames; refusals with and without a place
 run find other-cut.slp -100
@@ -354,3 +388,225 @@ for verb in table resave final; do
 	echo "\$ slp --progress=always $verb game.slp"
 	"$slp" --progress=always $verb game.slp $([ $verb = table ] || echo bar-$verb.slp) 2>&1 >out | tr '\r' '\n' | sed -n 's/ .* 100%.*/: to the end/p'
 done
+
+# the bar is never wider than its terminal: the longest line of it, with a column left
+for columns in 100 60 30 12 1; do
+	script -qec "stty cols $columns && '$slp' --progress=always walk game.slp" /dev/null </dev/null >bar
+	tr '\r' '\n' <bar | sed -n '/^r/p' | awk -v columns=$columns '{ if (length > most) most = length } END { print columns " columns: at most " most + 0 }'
+done
+
+# ---- a terminal takes no replay
+for what in 'demo -' 'resave game.slp -' 'final game.slp -'; do
+	echo "\$ slp $what   (standard output is a terminal)"
+	script -qec "'$slp' $what; echo = \$?" /dev/null </dev/null | tr -d '\r'
+done
+script -qec "'$slp' --force demo - 2>err" /dev/null </dev/null | head -c 4 | od -An -c
+
+# ---- what is closed of the standard three: closed WHICH SAVED IS VERB FILE..; then SAVED is as IS
+closed() {
+	which=$1 saved=$2 is=$3
+	shift 3
+	rm -f "$saved"
+	echo "\$ slp --progress=always $* $which"
+	: >out
+	: >err
+	eval "'$slp' --progress=always $* </dev/null >out 2>err $which"
+	status=$?
+	tr '\r' '\n' <err | sed -n 's/^.*slp: /slp: /p' >said && mv said err
+	show $status
+	cmp "$is" "$saved" && echo "$saved: the same"
+}
+for which in '2>&-' '>&-' '<&-' '<&- >&-' '<&- 2>&-' '>&- 2>&-' '<&- >&- 2>&-'; do closed "$which" closed.slp game.slp resave game.slp closed.slp; done
+for which in '>&-' '<&- >&- 2>&-'; do
+	closed "$which" closed.slp last.slp final game.slp closed.slp
+	closed "$which" alone.slp.spx game.slp.spx index alone.slp
+done
+for verb in 'walk game.slp' 'check game.slp' 'events game.slp' 'meta game.slp' 'table game.slp' 'table --final game.slp' 'index game.slp' \
+	'find game.slp -64' 'room' 'help' 'version' 'demo -' 'resave game.slp -' 'final game.slp -'; do
+	"$slp" --progress=always $verb >open.out 2>err
+	"$slp" --progress=always $verb >closed.out 2>&- && cmp open.out closed.out && echo "$verb, errors closed: the same"
+done
+echo '$ slp walk - <&-'
+"$slp" walk - >out 2>err <&-
+show $?
+echo '$ slp walk game.slp >&-'
+"$slp" walk game.slp 2>err >&-
+status=$?
+: >out
+show $status
+
+# ---- saving: over a file that is there, and over IN
+run --force demo game.slp
+run resave --force flag.slp saved.slp
+run resave --force game.slp saved.slp
+cmp game.slp saved.slp && echo 'saved.slp: the same'
+chmod 640 saved.slp
+ln saved.slp second-name.slp
+ln -s saved.slp link.slp
+run resave flag.slp link.slp
+run resave --force flag.slp flag.slp
+run resave --force longer.slp link.slp
+stat -c '%F %a' link.slp saved.slp
+cmp game.slp second-name.slp && echo 'its second name: as before'
+cp game.slp itself.slp
+run final --force game.slp link.slp
+run final --force itself.slp itself.slp
+for f in saved itself; do cmp last.slp $f.slp && echo "$f.slp: the same"; done
+run resave --force longer.slp saved.slp
+run final --force game.slp directory
+run resave --force game.slp directory
+run resave --force game.slp /dev/null
+run resave game.slp directory/
+# a limit of some kilobytes for a file, which is that of the tool alone
+limited() {
+	echo "\$ slp $*   (files are limited)"
+	sh -c 'ulimit -f 8 && exec "$@"' sh "$slp" "$@" >out 2>err </dev/null
+	status=$?
+	sed -i '3,$d' out
+	cut -d, -f1-4 out
+	: >out
+	show $status
+}
+limited resave game.slp limited.slp
+limited resave --force game.slp saved.slp
+limited final game.slp limited.slp
+limited demo limited.slp
+limited table game.slp
+[ -e limited.slp ] || echo 'limited.slp: not there'
+cmp longer-saved.slp saved.slp && echo 'saved.slp: as before'
+umask 077
+run resave game.slp private.slp
+umask 022
+run resave game.slp public.slp
+stat -c %a private.slp public.slp
+ls -A | grep tmp
+
+# the calls of a save, in their order, and what is said when
+calls() {
+	TRACE=1 "$points" "$@" | uniq
+}
+calls resave game.slp trace.slp
+calls resave --force game.slp trace.slp
+(export OLD=1; calls resave game.slp trace-old.slp)
+calls final game.slp trace-last.slp
+calls index alone.slp --force
+
+# A folder with a replay to be saved again, and what then stands where: saving VERB [--force], where there is something to be replaced.
+saving() {
+	rm -rf saving
+	mkdir saving
+	cp game.slp saving/in.slp
+	words="$1 ${2:-} saving/in.slp saving/out.slp" out=out.slp
+	case $1 in
+	resave) whole=game.slp ;;
+	final) whole=last.slp ;;
+	index) whole=game.slp.spx words="index ${2:-} saving/in.slp" out=in.slp.spx ;;
+	esac
+	[ -z "${2:-}" ] || cp flag-old.slp saving/$out
+}
+patched flag-old.slp 58 '\002'
+
+# another file gets the name meanwhile
+for old in '' 1; do
+	for verb in resave final index; do
+		saving $verb
+		APPEARS=1 OLD=$old "$points" $words
+		echo "= $?, $(ls -A saving | tr '\n' ' ')$(cat saving/$out)"
+	done
+done
+
+# A save ended, or failing, before each of its calls, and behind the last: ended WHAT VERB [--force]. What is there then, and how often in a row.
+ended() {
+	cases="$1, $2${3:+ $3}${OLD:+, without renameat2}${IGNORED:+, ignored}"
+	saving $2 ${3:-}
+	count=$(TRACE=1 "$points" $words 2>/dev/null | grep -c '^+')
+	for n in $(seq 1 $((count + 1))); do
+		saving $2 ${3:-}
+		{ POINT=$n DOES=$1 "$points" $words >out 2>err; } 2>/dev/null
+		status=$?
+		is=odd
+		[ -e saving/$out ] || is=absent
+		cmp -s flag-old.slp saving/$out && is=old
+		cmp -s $whole saving/$out && is=whole
+		echo "status $status, OUT is $is, other names: $(ls -A saving | grep -cvx "in.slp\|$out")"
+	done >points.txt
+	echo "$cases: $count calls"
+	uniq -c points.txt
+}
+for what in TERM INT HUP KILL EIO EINTR; do ended $what resave; done
+for what in TERM KILL EIO; do ended $what resave --force; done
+for what in TERM KILL EIO; do
+	for verb in final index; do ended $what $verb; done
+	ended $what index --force
+done
+(export OLD=1; for what in TERM KILL; do ended $what resave; done)
+(export IGNORED=1; ended HUP resave)
+
+# four at once: one of them gets the name
+rm -rf saving
+mkdir saving
+for i in 1 2 3 4; do "$slp" resave game.slp saving/out.slp >saving.$i 2>&1 & done
+wait
+cat saving.[1-4] | sort | uniq -c
+ls -A saving
+
+# ---- long files that are refused early are not read to their end
+for length in '\000\000\000\000' '\377\377\377\377'; do
+	patched sparse.slp 11 "$length"
+	head -c 22219 sparse.slp >sparse && mv sparse sparse.slp
+	truncate -s 5G sparse.slp
+	for verb in walk events check; do
+		echo "\$ slp $verb sparse.slp"
+		READS=1 "$points" $verb sparse.slp >out 2>err
+		status=$?
+		sed -i -n '$p' out
+		show $status
+	done
+done
+rm -f sparse.slp
+
+# ---- names that would draw, or forge a line
+odd() {
+	name=$(printf "$1")
+	cp "${2:-game.slp}" "$name"
+	"$slp" walk "$name" game.slp 2>&1
+}
+odd 'a\nb.slp: 1 0 whole\nc.slp'
+odd '\033[31mred.slp' cut.slp
+odd 'S\303\270ren \344\270\255.slp' cut.slp
+odd 'turned \342\200\256pls.slp'
+odd 'next line \302\205.slp'
+odd 'broken \377\303.slp' cut.slp
+odd 'long \300\257\340\200\257.slp'
+odd 'half \355\240\200.slp'
+odd 'a "quoted" one\\\\.slp'
+odd 'forged.slp: 398 0 whole'
+name=$(printf '\033]0;x\007\n.slp')
+cp cut.slp "$name"
+for verb in walk check events meta table; do "$slp" $verb "$name" 2>&1 | sed -n '$p'; done
+"$slp" check "$name" "$name.none" 2>&1
+for n in 1 2; do "$slp" index "$name" 2>&1; done
+"$slp" find "$name" -123 2>&1
+"$slp" find "$name" 0 2>&1
+"$slp" find "$name" "$name" 2>&1
+printf SPX >"$name.spx"
+"$slp" index "$name" 2>&1
+"$slp" find "$name" -123 2>&1
+rm "$name.spx"
+"$slp" find "$name" -123 2>&1
+"$slp" meta "$name.none" 2>&1
+"$slp" resave game.slp "$name" 2>&1
+"$slp" resave "$name" never.slp 2>&1
+"$slp" resave --force game.slp "$name" 2>&1
+"$slp" resave "$name" "$name.saved" 2>&1
+"$slp" final "$name" "$name.last" 2>&1
+"$slp" final "$name.none" never-last.slp 2>&1
+"$slp" demo "$name.demo" | head -n 1
+"$slp" "$name" 2>&1
+"$slp" room game.slp "$name" 2>&1
+"$slp" "--$name" 2>&1
+"$slp" "-$name" 2>&1
+"$slp" room "--frames=$name" 2>&1
+"$slp" "--progress=$name" walk 2>&1
+tail names.slp "$key"'U\006S\303\270renSU\010\342\200\256\302\233\377\303\251U\001al\000\000\000\000}}'
+run meta names.slp
