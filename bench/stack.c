@@ -135,7 +135,7 @@ static const struct {
 	size_t most;
 } CALLS[] = {
 	{ "slp_write", call_write, 8600 },
-	{ "slp_write_final", call_write_final, 12700 },
+	{ "slp_write_final", call_write_final, 13300 },
 	{ "slp_write_frames", call_write_frames, 4900 },
 	{ "slp_write_frame", call_write_frame, 4900 },
 	{ "slp_write_head", call_write_head, 5200 },
