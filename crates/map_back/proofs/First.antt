@@ -33,7 +33,7 @@ closed-far b g = elim (ℕ-discrete (g .refusal) 0) [
   ]
 ]
 
-abbrev Forward : List ℕ → ℕ → Type 0
+abbrev pub Forward : List ℕ → ℕ → Type 0
 Forward b d = (q : ℕ) → q ≤ inside b d q .stop
 
 text-far : (b : List ℕ) (d p : ℕ) → getD b p 0 ≡ 0x53 → p + 1 ≤ valueAt b d p .stop
@@ -42,7 +42,7 @@ text-far b d p m = elim (ℕ-discrete (textStop b (p + 1)) 0) [
   | no n ↦ let e = ap (λ (v : SeenValue). v .stop) (value-text b d p refl m refl n) in omega (arith, e, stop-yes b (p + 1) n .2)
 ]
 
-value-far : (b : List ℕ) (d p : ℕ) → Forward b d → p ≤ valueAt b d p .stop
+pub value-far : (b : List ℕ) (d p : ℕ) → Forward b d → p ≤ valueAt b d p .stop
 value-far b d p inner = elim (ℕ-discrete (getD b p 0) 0x53) [
   | yes m ↦ omega (arith, text-far b d p m)
   | no n1 ↦ elim (ℕ-discrete (getD b p 0) 0x6c) [
@@ -85,7 +85,7 @@ passed b d keys most p = elim (ℕ-discrete (getD b p 0) 0x55) [
   ]
 ]
 
-entries-far : (b : List ℕ) (d : ℕ) → Forward b d → (most p : ℕ) (keys : List (List ℕ)) → p ≤ entriesIn (inside b d) b keys most p .stop
+pub entries-far : (b : List ℕ) (d : ℕ) → Forward b d → (most p : ℕ) (keys : List (List ℕ)) → p ≤ entriesIn (inside b d) b keys most p .stop
 entries-far b d inner zero p keys = let e = none-far b d p keys in omega (arith, e)
 entries-far b d inner (suc most) p keys = go (passed b d keys most p) (λ q ks. entries-far b d inner most q ks)
   where
@@ -94,7 +94,7 @@ entries-far b d inner (suc most) p keys = go (passed b d keys most p) (λ q ks. 
     go (bad m n f r e) rest = omega (arith, e, stop-yes b p n .2, value-far b d (textStop b p) inner)
     go (goes m n f z e) rest = let k = rest (valueAt b d (textStop b p) .stop) (keys ++ (textOf b p ∷ [])) in omega (arith, e, stop-yes b p n .2, value-far b d (textStop b p) inner, k)
 
-inside-far : (b : List ℕ) (d : ℕ) → Forward b d
+pub inside-far : (b : List ℕ) (d : ℕ) → Forward b d
 inside-far b zero q = let e = ap (λ (g : Seen). g .stop) (inside-none b 0 q refl) in omega (arith, e)
 inside-far b (suc d) q =
     let less : suc d - 1 ≡ d = omega arith in
@@ -107,7 +107,7 @@ same-part {b} {c} a zero p h = part-none b p ∙ sym (part-none c p)
 same-part {b} {c} a (suc n) p h =
     part-cons b p n (omega (arith, a .in-first)) ∙ ap₂ (λ (x : ℕ) (l : List ℕ). x ∷ l) (a .same p (omega arith)) (same-part a n (p + 1) (omega arith)) ∙ sym (part-cons c p n (omega (arith, a .in-second)))
 
-stands-there : {b c : List ℕ} {s p q : ℕ} (xs : List ℕ) → Agree b c s → Stands b p xs (drop q b) → q ≤ s → Stands c p xs (drop q c) × (p + length xs ≡ q)
+pub stands-there : {b c : List ℕ} {s p q : ℕ} (xs : List ℕ) → Agree b c s → Stands b p xs (drop q b) → q ≤ s → Stands c p xs (drop q c) × (p + length xs ≡ q)
 stands-there {b} {c} {s} {p} {q} xs a st h =
     let e = stands-length {q = q} xs st (omega (arith, a .in-first)) in
     let (is, fit) = part-is xs st in
@@ -118,30 +118,30 @@ stands-there {b} {c} {s} {p} {q} xs a st h =
     stands-as e f t = rw (e, f) at t
 
 -- a text and a value that end before s are the same in both
-record SameText (b c : List ℕ) (p : ℕ) : Type 0 where
-  mark : getD c p 0 ≡ 0x55
-  stop : textStop c p ≡ textStop b p
-  is : textOf c p ≡ textOf b p
+pub record SameText (b c : List ℕ) (p : ℕ) : Type 0 where
+  pub mark : getD c p 0 ≡ 0x55
+  pub stop : textStop c p ≡ textStop b p
+  pub is : textOf c p ≡ textOf b p
 
 text-length : (b : List ℕ) (p : ℕ) → (textStop b p ≡ 0 → ⊥) → textStop b p ≡ p + 2 + length (textOf b p)
 unfolding textOf
 text-length b p n = let (mark, fit, stop) = stop-yes b p n in stop ∙ ap (λ k. p + 2 + k) (sym (length-part b (p + 2) (getD b (p + 1) 0) fit))
 
-same-text : {b c : List ℕ} {s : ℕ} → Agree b c s → Bytes b → (p : ℕ) → (textStop b p ≡ 0 → ⊥) → textStop b p ≤ s → SameText b c p
+pub same-text : {b c : List ℕ} {s : ℕ} → Agree b c s → Bytes b → (p : ℕ) → (textStop b p ≡ 0 → ⊥) → textStop b p ≤ s → SameText b c p
 same-text {b} {c} a h p n l =
     let t = text-sound b p h n in
     let (st, e) = stands-there {q = textStop b p} (textBytes (textOf b p)) a (t .stands) l in
     let x = text-complete c p (textOf b p) _ st in
     record { mark = x .mark; stop = x .stop ∙ sym (text-length b p n); is = x .is }
 
-same-value : {b c : List ℕ} {s : ℕ} → Agree b c s → Bytes b → (d p : ℕ) → valueAt b d p .refusal ≡ 0 → valueAt b d p .stop ≤ s → (valueAt c d p .refusal ≡ 0) × (valueAt c d p .stop ≡ valueAt b d p .stop)
+pub same-value : {b c : List ℕ} {s : ℕ} → Agree b c s → Bytes b → (d p : ℕ) → valueAt b d p .refusal ≡ 0 → valueAt b d p .stop ≤ s → (valueAt c d p .refusal ≡ 0) × (valueAt c d p .stop ≡ valueAt b d p .stop)
 same-value {b} {c} a h d p z l =
     let v = value-sound b d p h (inside-sound b h d) z in
     let (st, e) = stands-there {q = valueAt b d p .stop} (valueBytes (valueAt b d p .value)) a (v .stands) l in
     let x = value-complete (valueAt b d p .value) c d p _ (v .fit) (v .once) st in
     (ap (λ (w : SeenValue). w .refusal) x, ap (λ (w : SeenValue). w .stop) x ∙ e)
 
-stop-kept : (b c : List ℕ) (p : ℕ) → (textStop b p ≡ 0 → ⊥) → textStop c p ≡ textStop b p → textStop c p ≡ 0 → ⊥
+pub stop-kept : (b c : List ℕ) (p : ℕ) → (textStop b p ≡ 0 → ⊥) → textStop c p ≡ textStop b p → textStop c p ≡ 0 → ⊥
 stop-kept b c p n e z = n (sym e ∙ z)
 
 closed-stop : (b : List ℕ) (g : Seen) → (closed b g .refusal ≡ 0 → ⊥) → g .stop ≡ closed b g .stop

@@ -1,3 +1,6 @@
+pub mod Begins
+pub mod Calls
+pub mod Cells
 pub mod Complete
 pub mod First
 pub mod Fit

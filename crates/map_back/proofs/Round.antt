@@ -29,6 +29,7 @@ use Rattle.map_back.proofs.Complete.{back, one-map}
 use Rattle.map_back.proofs.Stand.{stand}
 use Rattle.map_back.specs.Terms.{Words}
 use Rattle.map_back.proofs.Fit.{rows-right}
+use Rattle.map_back.proofs.Cells.{rows-words}
 
 -- what the writer takes is a proper map whose body has at most 65,535 bytes
 pub taken-proper : (rows texts : List ℕ) (count room : ℕ) → Words rows → refusalOf rows texts count room ≡ 0
@@ -101,21 +102,22 @@ rows-stand b h z =
     ∙ ap (λ k. record { map = m; next = k; refusal = 0 }) (let zero : 0 + sizeOf m ≡ sizeOf m = omega arith in zero)
 
 -- what the reader takes, the writer gives: for the rows that were read, with the body as their store, it writes that body again
-pub read-written : (b : List ℕ) (cells : ℕ) → Bytes b → readRefusal b cells ≡ 0 → Words (rowsOf (wholeMap b .map) 0)
-    → (refusalOf (rowsOf (wholeMap b .map) 0) b (countOf (wholeMap b .map)) (length b) ≡ 0) × (bodyOf (lentMap (rowsOf (wholeMap b .map) 0) b (countOf (wholeMap b .map)) .map) ≡ b)
-read-written b cells h e w =
+pub read-written : (b : List ℕ) (cells room : ℕ) → Bytes b → readRefusal b cells ≡ 0 → length b ≤ room
+    → (refusalOf (rowsOf (wholeMap b .map) 0) b (countOf (wholeMap b .map)) room ≡ 0) × (bodyOf (lentMap (rowsOf (wholeMap b .map) 0) b (countOf (wholeMap b .map)) .map) ≡ b)
+read-written b cells room h e l =
     let t = taken-of b cells e in
     let (p, same) = whole-body b h (t .ok) in
     let m = wholeMap b .map in
     let s = rows-stand b h (t .ok) in
     let body = ap (λ (g : Grown). bodyOf (g .map)) s ∙ same in
+    let w = rows-words m 8 0 (p .fit) (omega (arith, ap length same, t .small)) in
     let (f, once) = rows-right (rowsOf m 0) b 8 0 (countOf m) w (ap (λ (g : Grown). g .refusal) s) in (
-      sym (refused-as (rowsOf m 0) b (countOf m) (length b) (record {
+      sym (refused-as (rowsOf m 0) b (countOf m) room (record {
         ok = ap (λ (g : Grown). g .refusal) s;
         once = sym once ∙ ap (λ (g : Grown). twiceIn [] (g .map)) s ∙ p .once;
         whole = ap (λ (g : Grown). 5 * g .next) s ∙ sym (length-rows m 0);
         small = omega (arith, ap length body, t .small);
-        fits = omega (arith, ap length body);
+        fits = omega (arith, ap length body, l);
       })),
       body,
     )
