@@ -24,13 +24,15 @@ use Rattle.de.specs.declared.Walked.the-variants as walked
 use Rattle.game.specs.Stores.{Stores}
 use Rattle.game.specs.declared.Game.{Game}
 use Rattle.game.specs.declared.frames.Frames.{Frames}
+use Rattle.game.specs.declared.frames.Counts.{Counts}
 use Rattle.ser.specs.Write.{entries, events, file, answered, refusal, WrittenNumbers, writtenNumbers, Outcome}
 use Rattle.ser.specs.declared.written.Written.the-variants.{File}
 use Rattle.ser.proofs.Answered.{written-file}
 use Rattle.ser.proofs.EveryCut.{uncut}
 use Rattle.ser.proofs.Outcomes.{Passed}
-use Rattle.apart.specs.Card.{SameElsewhere, Agree, Alongside, InCard}
+use Rattle.apart.specs.Card.{SameElsewhere, SamePlayers, Agree, Alongside, InCard}
 use Rattle.apart.proofs.Besides.{length-same, bytes-same, differ}
+use Rattle.apart.proofs.Forms.{slots-of, port-of, rows-of}
 use Rattle.apart.proofs.Players.{events-beside}
 
 -- ---- any events beside each other, under one table
@@ -81,17 +83,39 @@ module _ (port : ℕ) (t : List Entry) (tail : List ℕ) (es ds : List Ev) (h : 
       ]
 
 -- ---- what two games agree in, they agree in both ways
-elsewhere-too : {f : Frames} {port : ℕ} {family : Family} {a b : List ℕ} → SameElsewhere f port family a b → SameElsewhere f port family b a
-elsewhere-too h = record { cell = λ block column row k l m ne. sym (h .cell block column row k l m ne) }
+elsewhere-too : {f h : Frames} {port : ℕ} {family : Family} {a b : List ℕ} → SamePlayers f h → SameElsewhere f port family a b → SameElsewhere h port family b a
+elsewhere-too {f} {h} {port} {family} {a} {b} p e = record {
+  cell = λ block column row k l m ne.
+      rw (← rows-of p family, ← p .version)
+      (sym (e .cell block column row (omega (arith, slots-of p, k)) (rw (p .version) l) (omega (arith, rows-of p family, m)) (λ z. ne (sym (port-of p block) ∙ z))));
+}
 
-pub both-ways : {g : Game} {port : ℕ} {s t : Stores} → Agree g port s t → Agree g port t s
-both-ways a = record {
+players-too : {f h : Frames} → SamePlayers f h → SamePlayers h f
+players-too p = record {
+  version = sym (p .version);
+  counts = sym (p .counts);
+  port-count = sym (p .port-count);
+  port = λ k. sym (p .port k);
+  follower = λ k. sym (p .follower k);
+}
+
+pub both-ways : {g h : Game} {port : ℕ} {s t : Stores} → Agree g h port s t → Agree h g port t s
+both-ways {g} {h} a = record {
+  players = players-too (a .players);
+  start = sym (a .start);
+  end = sym (a .end);
+  double-end = sym (a .double-end);
+  codes-given = sym (a .codes-given);
+  metadata-given = sym (a .metadata-given);
+  actual-size = sym (a .actual-size);
   lent = record {
-    presence = sym (a .lent .presence);
+    presence = record {
+      in-frame = λ k i l m. sym (a .lent .presence .in-frame k i (omega (arith, slots-of (a .players), l)) (omega (arith, ap (λ (c : Counts). c .frames) (a .players .counts), m)));
+    };
     ids = sym (a .lent .ids);
     starts = sym (a .lent .starts);
-    pres = elsewhere-too (a .lent .pres);
-    posts = elsewhere-too (a .lent .posts);
+    pres = elsewhere-too (a .players) (a .lent .pres);
+    posts = elsewhere-too (a .players) (a .lent .posts);
     ends = sym (a .lent .ends);
     items = sym (a .lent .items);
     fods = sym (a .lent .fods);
@@ -105,45 +129,44 @@ both-ways a = record {
 }
 
 -- ---- the definition's files of two games
-module _ {g : Game} {port : ℕ} {s t : Stores} (a : Agree g port s t) where
-  pub one-table : entries g s ≡ entries g t
-  one-table = ap (λ (l : List ℕ). entriesOf (g .frames .version) (length l) (mark.yes (g .«codes_given»)) (g .«actual_size»)) (a .template)
+module _ {g h : Game} {port : ℕ} {s t : Stores} (a : Agree g h port s t) where
+  pub one-table : entries g s ≡ entries h t
+  one-table = λ i. entriesOf (a .players .version i) (length (a .template i)) (mark.yes (a .codes-given i)) (a .actual-size i)
 
   -- the other file by its own events under this table, and before this tail
-  file-is : file g t ≡ fileOf (entries g s) (events g t) (tailOf (mark.yes (g .«metadata_given»)) (s .metadata))
+  file-is : file h t ≡ fileOf (entries g s) (events h t) (tailOf (mark.yes (g .«metadata_given»)) (s .metadata))
   unfolding file
-  file-is =
-      ap₂ (λ (x : List Entry) (m : List ℕ). fileOf x (events g t) (tailOf (mark.yes (g .«metadata_given»)) m)) (sym one-table) (sym (a .metadata))
+  file-is = λ i. fileOf (sym one-table i) (events h t) (tailOf (mark.yes (sym (a .metadata-given) i)) (sym (a .metadata) i))
 
-  pub files-of-one-length : length (file g s) ≡ length (file g t)
+  pub files-of-one-length : length (file g s) ≡ length (file h t)
   unfolding file
   files-of-one-length =
-      one-length port (entries g s) (tailOf (mark.yes (g .«metadata_given»)) (s .metadata)) (events g s) (events g t) (events-beside a) ∙ ap length (sym file-is)
+      one-length port (entries g s) (tailOf (mark.yes (g .«metadata_given»)) (s .metadata)) (events g s) (events h t) (events-beside a) ∙ ap length (sym file-is)
 
-  here-only : (p : ℕ) → (getD (file g s) p 0 ≡ getD (file g t) p 0 → ⊥) → InCard port (events g s) (firstPlace (entries g s)) p
+  here-only : (p : ℕ) → (getD (file g s) p 0 ≡ getD (file h t) p 0 → ⊥) → InCard port (events g s) (firstPlace (entries g s)) p
   unfolding file
   here-only p ne =
-      file-differs port (entries g s) (tailOf (mark.yes (g .«metadata_given»)) (s .metadata)) (events g s) (events g t) (events-beside a) p
+      file-differs port (entries g s) (tailOf (mark.yes (g .«metadata_given»)) (s .metadata)) (events g s) (events h t) (events-beside a) p
       (λ q. ne (q ∙ ap (λ (l : List ℕ). getD l p 0) (sym file-is)))
 
 -- a byte that differs is in the card in both files
-pub differs-in-card : {g : Game} {port : ℕ} {s t : Stores} → Agree g port s t → (p : ℕ) → (getD (file g s) p 0 ≡ getD (file g t) p 0 → ⊥)
-    → InCard port (events g s) (firstPlace (entries g s)) p × InCard port (events g t) (firstPlace (entries g t)) p
+pub differs-in-card : {g h : Game} {port : ℕ} {s t : Stores} → Agree g h port s t → (p : ℕ) → (getD (file g s) p 0 ≡ getD (file h t) p 0 → ⊥)
+    → InCard port (events g s) (firstPlace (entries g s)) p × InCard port (events h t) (firstPlace (entries h t)) p
 differs-in-card a p ne = (here-only a p ne, here-only (both-ways a) p (λ q. ne (sym q)))
 
 -- the reader finds the same walk in both, and events beside each other
-pub read-beside : {g : Game} {port : ℕ} {s t : Stores} → Agree g port s t → Passed g s → Passed g t
-    → (walkOf (file g s) ≡ walkOf (file g t)) × Alongside port (eventsRead (file g s)) (eventsRead (file g t))
-read-beside {g} {port} {s} {t} a x y =
+pub read-beside : {g h : Game} {port : ℕ} {s t : Stores} → Agree g h port s t → Passed g s → Passed h t
+    → (walkOf (file g s) ≡ walkOf (file h t)) × Alongside port (eventsRead (file g s)) (eventsRead (file h t))
+read-beside {g} {h} {port} {s} {t} a x y =
     let (es, w) = uncut x in
     let (ds, v) = uncut y in
-    let h = events-beside a in
-    let bytes : length (tableBytes (entries g s) ++ eventsBytes (events g s)) ≡ length (tableBytes (entries g t) ++ eventsBytes (events g t)) =
+    let al = events-beside a in
+    let bytes : length (tableBytes (entries g s) ++ eventsBytes (events g s)) ≡ length (tableBytes (entries h t) ++ eventsBytes (events h t)) =
     length-append (tableBytes (entries g s)) (eventsBytes (events g s))
-    ∙ ap₂ (λ (i : List Entry) (j : ℕ). length (tableBytes i) + j) (one-table a) (bytes-same port (events g s) (events g t) h)
-    ∙ sym (length-append (tableBytes (entries g t)) (eventsBytes (events g t))) in (
-      w ∙ ap₂ (λ (i j : ℕ). walked.Done i 0 true (15 + j)) (length-same port (events g s) (events g t) h) bytes ∙ sym v,
-      subst (λ (l : List Ev). Alongside port l (eventsRead (file g t))) (sym es) (subst (λ (l : List Ev). Alongside port (events g s) l) (sym ds) h),
+    ∙ ap₂ (λ (i : List Entry) (j : ℕ). length (tableBytes i) + j) (one-table a) (bytes-same port (events g s) (events h t) al)
+    ∙ sym (length-append (tableBytes (entries h t)) (eventsBytes (events h t))) in (
+      w ∙ ap₂ (λ (i j : ℕ). walked.Done i 0 true (15 + j)) (length-same port (events g s) (events h t) al) bytes ∙ sym v,
+      subst (λ (l : List Ev). Alongside port l (eventsRead (file h t))) (sym es) (subst (λ (l : List Ev). Alongside port (events g s) l) (sym ds) al),
     )
 
 -- ---- what `write` answered and left
@@ -151,14 +174,14 @@ answered-length : (k n m : ℕ) → writtenNumbers (File n) ≡ writtenNumbers (
 answered-length zero n m e = ap (λ (w : WrittenNumbers). w .len) e
 answered-length (suc k) n m e = let z : _≡_ {A = ℕ} 0 1 = ap (λ (w : WrittenNumbers). w .kind) e in absurd (omega arith)
 
-module _ {g : Game} {port : ℕ} {s t : Stores} (a : Agree g port s t) {out out′ to to′ : List ℕ} {n m : ℕ} (x : Outcome g s out (File n) out′)
-    (y : Outcome g t to (File m) to′) where
+module _ {g h : Game} {port : ℕ} {s t : Stores} (a : Agree g h port s t) {out out′ to to′ : List ℕ} {n m : ℕ} (x : Outcome g s out (File n) out′)
+    (y : Outcome h t to (File m) to′) where
   pub answers-of-one-length : n ≡ m
   answers-of-one-length =
-      answered-length (refusal g s (length out)) n _ (x .answer-is) ∙ files-of-one-length a ∙ sym (answered-length (refusal g t (length to)) m _ (y .answer-is))
+      answered-length (refusal g s (length out)) n _ (x .answer-is) ∙ files-of-one-length a ∙ sym (answered-length (refusal h t (length to)) m _ (y .answer-is))
 
   pub written-differs-in-card : (p : ℕ) → p < n → (getD out′ p 0 ≡ getD to′ p 0 → ⊥)
-      → InCard port (events g s) (firstPlace (entries g s)) p × InCard port (events g t) (firstPlace (entries g t)) p
+      → InCard port (events g s) (firstPlace (entries g s)) p × InCard port (events h t) (firstPlace (entries h t)) p
   written-differs-in-card p l ne =
       differs-in-card a p
       (λ q. ne

@@ -1,4 +1,5 @@
 pub mod Besides
+pub mod Forms
 pub mod Players
 pub mod Files
 pub mod Rows

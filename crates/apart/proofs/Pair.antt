@@ -1,9 +1,9 @@
--- Computed games, so that the theorems speak of something: two that agree in all but one port's card are accepted, and their files differ; and two that
--- differ in presence alone are accepted, and their files have two lengths, so that presence must be equal.
+-- Computed games, so that the theorems speak of something: two that agree in all but one port's card are accepted, and their files differ, with presence in one
+-- form or in two; and two that differ in presence alone are accepted, and their files have two lengths, so that presence must say the same.
 -- Assumes nothing.
 use mathlib.Core.Path.{_≡_, refl, sym, ap, _∙_}
 use mathlib.Core.List.{List, [], _∷_, _++_}
-use Prim.Native.Nat.{ℕ, zero, suc, _+_, _-_, _*_, _≤_}
+use Prim.Native.Nat.{ℕ, zero, suc, _+_, _-_, _*_, _≤_, _<_}
 use native.Mathlib.Nat.{suc-mul}
 use native.Mathlib.Omega.{arith}
 use borrow.Author.Tests.{le-ltb}
@@ -17,12 +17,12 @@ use Rattle.format.proofs.Refusals.{skip, none, lowest-after}
 use Rattle.layout.specs.Columns.{columnsOf, chosen, sum, hasFamily}
 use Rattle.layout.specs.Payloads.{endSize, listed, payloadSize, entriesOf}
 use Rattle.layout.specs.declared.columns.Family.the-variants.{Pre, Post}
-use Rattle.game.specs.Frames.{noPort, portsOf, portSlots, portBytes, slotsFrom, slotsOf}
+use Rattle.game.specs.Frames.{noPort, noSlot, portsOf, portSlots, portBytes, slotsFrom, slotsOf}
 use Rattle.game.specs.Stores.{cells, offsets, lent, Stores, stores}
 use Rattle.game.specs.declared.Game.{Game}
 use Rattle.game.specs.declared.frames.Frames.{Frames}
 use Rattle.game.specs.declared.frames.PortColumn.{PortColumn}
-use Rattle.players.specs.Presence.{marked, countFrom, playersPresent, uneven, portUneven, portsUneven, presenceWrong}
+use Rattle.players.specs.Presence.{marked, presentAt, countFrom, playersPresent, uneven, portUneven, portsUneven, presenceWrong}
 use Rattle.frames.specs.Judge.{tooMany, misfits, storesMisfit, columnsExceed, blocksExceed, exceeds, cellsExceed, refusals}
 use Rattle.frames.specs.Judge.{falls, strays, leftOver, misleads, offsetsMislead, portNumbers, twice, portsWrong}
 use Rattle.frames.proofs.Accepted.{numbered}
@@ -39,7 +39,7 @@ use Rattle.ser.proofs.Outcomes.{passes, numbered-eleven}
 use Rattle.cases.specs.Games.{plainStart, gameWith}
 use Rattle.cases.proofs.Computed.{total-of}
 use Rattle.cases.proofs.Examples.{passed}
-use Rattle.apart.specs.Card.{slotPort, SameElsewhere, Agree}
+use Rattle.apart.specs.Card.{slotPort, columnPort, SameElsewhere, SamePlayers, SamePresence, Agree}
 
 -- one frame at 3.18, where Pre has 19 columns and Post 32: port 1 with a follower, and port 3, whose leader may have a byte of presence bits
 abbrev portColumn : ℕ → ℕ → ℕ → PortColumn
@@ -89,10 +89,32 @@ elsewhere-post : SameElsewhere (frames 0) 1 Post (played 0 [] .lent .cells .post
 unfolding columnsOf chosen gteOf above
 elsewhere-post = record { cell = λ block column row k l m ne. elsewhere 32 (replicate 64 0) (replicate 64 1) (replicate 32 7) refl refl block column row ne }
 
-pub agree : Agree (game 0) 1 (played 0 []) (played 1 [])
-agree = record {
+-- the players are the same, however many presence bytes the player of port 3 has
+players : (presence : ℕ) → SamePlayers (frames 0) (frames presence)
+unfolding portsOf tabulate
+players presence = record { version = refl; counts = refl; port-count = refl; port = ports; follower = followers }
+  where
+    ports : (k : ℕ) → columnPort (frames 0) k ≡ columnPort (frames presence) k
+    ports zero = refl
+    ports (suc zero) = refl
+    ports (suc (suc k)) = refl
+
+    followers : (k : ℕ) → getD (portsOf (frames 0)) k noPort .follower ≡ getD (portsOf (frames presence)) k noPort .follower
+    followers zero = refl
+    followers (suc zero) = refl
+    followers (suc (suc k)) = refl
+
+agreed : (presence : ℕ) (bits : List ℕ) → SamePresence (frames 0) (frames presence) [] bits → Agree (game 0) (game presence) 1 (played 0 []) (played 1 bits)
+agreed presence bits same = record {
+  players = players presence;
+  start = refl;
+  end = refl;
+  double-end = refl;
+  codes-given = refl;
+  metadata-given = refl;
+  actual-size = refl;
   lent = record {
-    presence = refl;
+    presence = same;
     ids = refl;
     starts = refl;
     pres = elsewhere-pre;
@@ -109,14 +131,33 @@ agree = record {
   metadata = refl;
 }
 
+pub agree : Agree (game 0) (game 0) 1 (played 0 []) (played 1 [])
+agree = agreed 0 [] (record { in-frame = λ k i l m. refl })
+
+-- no presence bytes against one whose spare bits are all set: its lowest bit says that the player of port 3 is in the one frame
+in-form : SamePresence (frames 0) (frames 1) [] (255 ∷ [])
+unfolding marked slotsOf slotsFrom portsOf portSlots portBytes tabulate keep
+in-form = record { in-frame = each }
+  where
+    each : (k i : ℕ) → k < length (slotsOf (frames 0)) → i < 1 → presentAt [] (getD (slotsOf (frames 0)) k noSlot) i ≡ presentAt (255 ∷ []) (getD (slotsOf (frames 1)) k noSlot) i
+    each zero i l m = refl
+    each (suc zero) i l m = refl
+    each (suc (suc zero)) zero l m = refl
+    each (suc (suc zero)) (suc i) l m = absurd (omega arith)
+    each (suc (suc (suc k))) i l m = absurd (omega arith)
+
+pub agree-in-form : Agree (game 0) (game 1) 1 (played 0 []) (played 1 (255 ∷ []))
+agree-in-form = agreed 1 (255 ∷ []) in-form
+
 -- ---- they are accepted: 1 to 7 are computed, 8 to 10 are those of the game that the twelve cases have with one frame
 framed :
     (lowest (refusals (frames 0) (played 0 [] .lent) 0 0) ≡ 0)
     × (lowest (refusals (frames 0) (played 1 [] .lent) 0 0) ≡ 0)
     × (lowest (refusals (frames 1) (played 0 (1 ∷ []) .lent) 0 0) ≡ 0)
     × (lowest (refusals (frames 1) (played 0 (0 ∷ []) .lent) 0 0) ≡ 0)
+    × (lowest (refusals (frames 1) (played 1 (255 ∷ []) .lent) 0 0) ≡ 0)
 unfolding refusals lowest oneOf tooMany storesMisfit misfits cellsExceed exceeds blocksExceed columnsExceed offsetsMislead misleads strays leftOver falls presenceWrong portsUneven portUneven uneven portsWrong portNumbers twice slotsOf slotsFrom portsOf portSlots portBytes tabulate keep sum chosen columnsOf hasFamily acceptedOf above gteOf
-framed = (refl, refl, refl, refl)
+framed = (refl, refl, refl, refl, refl)
 
 judged-none : (presence n : ℕ) (bits : List ℕ) → lowest (refusals (frames presence) (played n bits .lent) 0 0) ≡ 0 → lowest (judged (game presence) (played n bits)) ≡ 0
 unfolding judged endWrong initiatorWrong
@@ -129,10 +170,11 @@ accepted : (g : Game) (s : Stores) → lowest (judged g s) ≡ 0 → refusal g s
 unfolding refusal
 accepted g s e = lowest-after (judged g s) _ (numbered-eleven g s) e ∙ sym (skip 12 _ _ _ (le-ltb (length (file g s)) (length (file g s)) (omega arith)) none)
 
-pub both-accepted :
+pub all-accepted :
     (refusal (game 0) (played 0 []) (length (file (game 0) (played 0 []))) ≡ 0)
     × (refusal (game 0) (played 1 []) (length (file (game 0) (played 1 []))) ≡ 0)
-both-accepted = (accepted _ _ (judged-none 0 0 [] (framed .0)), accepted _ _ (judged-none 0 1 [] (framed .1)))
+    × (refusal (game 1) (played 1 (255 ∷ [])) (length (file (game 1) (played 1 (255 ∷ [])))) ≡ 0)
+all-accepted = (accepted _ _ (judged-none 0 0 [] (framed .0)), accepted _ _ (judged-none 0 1 [] (framed .1)), accepted _ _ (judged-none 1 1 (255 ∷ []) (framed .4)))
 
 -- ---- and their files differ: byte 9 of the payload of event 2, the Pre of port 1's leader, is the low byte of its first cell
 abbrev noEv : Ev

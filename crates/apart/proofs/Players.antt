@@ -30,6 +30,7 @@ use Rattle.ending.specs.End.{endEvents}
 use Rattle.ser.specs.Write.{startEvent, events}
 use Rattle.apart.specs.Card.{slotPort, SameElsewhere, CardApart, Agree, isPlayers, ofPort, Beside, Alongside}
 use Rattle.apart.proofs.Besides.{same, one, append, over-range, where-kept}
+use Rattle.apart.proofs.Forms.{withPorts, withPresence, ports-are, players-as, presence-as, frames-same}
 
 -- ---- what is lent, with other Pre and Post cells
 
@@ -40,8 +41,8 @@ withPlayers s pres posts = record {
   presence = s .presence;
 }
 
--- the other lent stores are these with the other Pre and Post cells
-pub lent-is : {f : Frames} {port : ℕ} {s t : Lent} → CardApart f port s t → withPlayers s (t .cells .pres) (t .cells .posts) ≡ t
+-- the other lent stores are these with the other Pre and Post cells, and the other presence
+pub lent-is : {f h : Frames} {port : ℕ} {s t : Lent} → CardApart f h port s t → withPresence (withPlayers s (t .cells .pres) (t .cells .posts)) (t .presence) ≡ t
 lent-is {t = t} a = λ i. record {
   cells = record {
     ids = a .ids i;
@@ -55,14 +56,38 @@ lent-is {t = t} a = λ i. record {
     stadiums = a .stadiums i;
   };
   offsets = a .offsets i;
-  presence = a .presence i;
+  presence = t .presence;
 }
 
 abbrev pub storesWith : Stores → List ℕ → List ℕ → Stores
 storesWith s pres posts = stores (withPlayers (s .lent) pres posts) (s .template) (s .codes) (s .metadata)
 
-pub stores-are : {g : Game} {port : ℕ} {s t : Stores} → Agree g port s t → storesWith s (t .lent .cells .pres) (t .lent .cells .posts) ≡ t
-stores-are {t = t} a = λ i. record { lent = lent-is (a .lent) i; template = a .template i; codes = a .codes i; metadata = a .metadata i }
+-- a game with other frames, and the other game as such a one
+abbrev gameWith : Game → Frames → Game
+gameWith g f = record {
+  frames = f;
+  start = g .start;
+  end = g .end;
+  «double_end» = g .«double_end»;
+  «codes_given» = g .«codes_given»;
+  «metadata_given» = g .«metadata_given»;
+  «actual_size» = g .«actual_size»;
+}
+
+game-is : {g h : Game} {port : ℕ} {s t : Stores} → Agree g h port s t → gameWith g (withPorts (g .frames) (h .frames .ports)) ≡ h
+game-is a = λ i. record {
+  frames = ports-are (a .players) i;
+  start = a .start i;
+  end = a .end i;
+  «double_end» = a .double-end i;
+  «codes_given» = a .codes-given i;
+  «metadata_given» = a .metadata-given i;
+  «actual_size» = a .actual-size i;
+}
+
+stores-are : {g h : Game} {port : ℕ} {s t : Stores} → Agree g h port s t
+    → stores (withPresence (withPlayers (s .lent) (t .lent .cells .pres) (t .lent .cells .posts)) (t .lent .presence)) (s .template) (s .codes) (s .metadata) ≡ t
+stores-are a = λ i. record { lent = lent-is (a .lent) i; template = a .template i; codes = a .codes i; metadata = a .metadata i }
 
 -- ---- a record's cells
 
@@ -146,14 +171,24 @@ module _ (f : Frames) (port : ℕ) (s : Lent) (pres posts : List ℕ) (p : SameE
   unfolding framesEvents
   frames-beside = over-range port _ _ 0 (f .counts .frames) (λ i l. frame-beside i (omega arith))
 
--- the events of two games that agree in all but the port's card
-pub events-beside : {g : Game} {port : ℕ} {s t : Stores} → Agree g port s t → Alongside port (events g s) (events g t)
+-- the other game's events are this game's with the other Pre and Post cells, whatever the form of presence
+events-form : {g h : Game} {port : ℕ} {s t : Stores} → Agree g h port s t → events g (storesWith s (t .lent .cells .pres) (t .lent .cells .posts)) ≡ events h t
 unfolding events
-events-beside {g} {port} {s} {t} a =
+events-form {g} {h} {port} {s} {t} a =
+    let u = withPlayers (s .lent) (t .lent .cells .pres) (t .lent .cells .posts) in
+    let same = frames-same (g .frames) (h .frames .ports) (players-as (a .players)) u (t .lent .presence) (presence-as (a .players) (a .lent .presence)) in
+    let v = g .frames .version in
+    ap (λ (es : List Ev). startEvent g s ∷ (codeEvents (yes (g .«codes_given»)) (s .codes) (g .«actual_size») ++ (es ++ endEvents v (g .end) (g .«double_end»)))) same
+    ∙ ap₂ events (game-is a) (stores-are a)
+
+-- the events of two games that agree in all but the port's card
+pub events-beside : {g h : Game} {port : ℕ} {s t : Stores} → Agree g h port s t → Alongside port (events g s) (events h t)
+unfolding events
+events-beside {g} {h} {port} {s} {t} a =
     let v = g .frames .version in
     let pres = t .lent .cells .pres in
     let posts = t .lent .cells .posts in
-    subst (λ (x : Stores). Alongside port (events g s) (events g x)) (stores-are a)
+    subst (λ (es : List Ev). Alongside port (events g s) es) (events-form a)
     (append port _ _ _ _ (same port (startEvent g s ∷ []))
     (append port _ _ _ _ (same port (codeEvents (yes (g .«codes_given»)) (s .codes) (g .«actual_size»)))
     (append port _ _ _ _ (frames-beside (g .frames) port (s .lent) pres posts (a .lent .pres) (a .lent .posts))

@@ -1,24 +1,24 @@
 -- The rows of two games that agree in all but one port's card: those of the other ports are equal, and so are starts, ends, items and the stages' rows.
 -- Assumes nothing.
-use mathlib.Core.Path.{_≡_, refl, sym, ap, subst, _∙_}
+use mathlib.Core.Path.{_≡_, refl, sym, ap, ap₂, subst, _∙_}
 use mathlib.Core.Bool.{Bool, true, false, cond}
 use mathlib.Core.List.{List, [], _∷_, _++_}
-use Prim.Native.Nat.{ℕ, zero, suc, _+_, _<_}
+use Prim.Native.Nat.{ℕ, zero, suc, _+_, _-_, _<_}
 use native.Mathlib.Omega.{arith}
 use borrow.Author.Tests.{ltb-true}
 use lib.Dec.{ltb}
 use lib.ListN.{length, getD, take, length-append}
 use lib.Seq.{getD-append-add}
-use Rattle.wire.specs.Wire.{keep}
-use Rattle.wire.proofs.Laws.{tabulate-ext}
+use Rattle.wire.specs.Wire.{splice, keep}
+use Rattle.wire.proofs.Laws.{tabulate-ext, ranged-same}
 use Rattle.format.specs.Refusal.{lowest}
 use Rattle.format.proofs.Refusals.{passed, skip, lowest-first}
 use Rattle.format.proofs.Tests.{one-passed, one-skip, one-none}
 use Rattle.layout.specs.Columns.{widthsOf}
 use Rattle.layout.specs.declared.columns.Family.{Family}
-use Rattle.layout.specs.declared.columns.Family.the-variants.{Pre, Post, FrameStart, Item, FodPlatform, DreamlandWhispy, StadiumTransformation}
-use Rattle.game.specs.Frames.{noPort, portsOf, follows, Slot, noSlot, portSlots, portBytes, slotsFrom, slotsOf, rowsOf}
-use Rattle.game.specs.Stores.{Lent, Stores}
+use Rattle.layout.specs.declared.columns.Family.the-variants.{Pre, Post, FrameStart, Item, FrameEnd, FodPlatform, DreamlandWhispy, StadiumTransformation}
+use Rattle.game.specs.Frames.{noPort, portsOf, follows, Slot, noSlot, portSlots, portBytes, slotsFrom, slotsOf, rowsOf, slotBlocks}
+use Rattle.game.specs.Stores.{Lent, Stores, cellsOf}
 use Rattle.game.specs.declared.Game.{Game}
 use Rattle.game.specs.declared.frames.Frames.{Frames}
 use Rattle.game.specs.declared.frames.PortColumn.{PortColumn}
@@ -28,14 +28,19 @@ use Rattle.frames.specs.Judge.{tooMany, refusals}
 use Rattle.ser.specs.Write.{givenBytes, judged}
 use Rattle.rows.specs.Cells.{firstCells}
 use Rattle.transpose.specs.Judge.{rowRefusal}
-use Rattle.transpose.specs.Records.{cellsAt}
+use Rattle.rows.specs.Rows.{itemOf, noItem, fodPlatformOf, noFodPlatform, dreamlandWhispyOf, noDreamlandWhispy, stadiumTransformationOf, noStadiumTransformation}
+use Rattle.transpose.specs.Records.{cellsAt, markAt}
 use Rattle.transpose.specs.Ports.{noPortData, portAt}
 use Rattle.transpose.specs.Frame.{frameAt}
-use Rattle.transpose.specs.Answers.{unlessRefused, preRow, postRow, frameAnswer, frameRow}
+use Rattle.transpose.specs.Answers.{unlessRefused, rowAnswer, preRow, postRow, itemAnswer, fodPlatformAnswer, dreamlandWhispyAnswer, stadiumTransformationAnswer, frameAnswer, frameRow}
 use Rattle.transpose.specs.declared.frame.FrameRow.{FrameRow}
 use Rattle.transpose.specs.declared.frame.PortData.{PortData}
 use Rattle.transpose.proofs.Judged.{row-judged, reachable}
-use Rattle.apart.specs.Card.{slotPort, columnPort, SameElsewhere, CardApart, Agree, FrameApart, RowsApart}
+use Rattle.run_rows.specs.Run.{familyOf, ofPlayers, runRow, runCells, runLength, runRefusal, runAnswer, RowsOutcome}
+use Rattle.run_rows.specs.declared.run.Run.{Run}
+use Rattle.run_rows.proofs.Judged.{run-judged, running}
+use Rattle.apart.specs.Card.{slotPort, columnPort, SameElsewhere, SamePlayers, SamePresence, CardApart, Agree, FrameApart, RowsApart}
+use Rattle.apart.proofs.Forms.{withPorts, withPresence, ports-are, players-as, presence-as, accepted-too, pre-same, post-same, item-same, fod-same, whispy-same, stadium-same, frame-row-same, run-refusal-same, run-same}
 use Rattle.apart.proofs.Players.{withPlayers, lent-is}
 
 -- ---- a record's cells
@@ -179,22 +184,73 @@ module _ (f : Frames) (port : ℕ) (s : Lent) (pres posts : List ℕ) (p : SameE
           let one : frameRow f s index ≡ frameRow f t index = rw (one-refusal FrameStart 0 index, e) in
           subst (λ (b : FrameRow). FrameApart f port (frameRow f s index) b) one (frame-same f port (frameRow f s index))
 
-  rows-with : RowsApart f port s t
-  rows-with = record {
-    pre = pre-with;
-    post = post-with;
-    item = λ index. rw (one-refusal Item 0 index);
-    fod-platform = λ index. rw (one-refusal FodPlatform 0 index);
-    dreamland-whispy = λ index. rw (one-refusal DreamlandWhispy 0 index);
-    stadium-transformation = λ index. rw (one-refusal StadiumTransformation 0 index);
-    frame = frame-with;
-  }
+  -- runs of rows
+  run-refusal-with : (number slot a b room : ℕ) → runRefusal f s number slot a b room ≡ runRefusal f t number slot a b room
+  run-refusal-with number slot a b room = sym (run-judged f s number slot a b room 0 (sym x)) ∙ run-judged f t number slot a b room 0 (sym y)
+
+  run-row-with : (family : Family) (slot index : ℕ) → slot < slotBlocks f family → index < rowsOf f family → (ofPlayers family ≡ true → slotPort f slot ≡ port → ⊥)
+      → runRow f family (cellsOf (s .cells) family) (s .presence) slot index ≡ runRow f family (cellsOf (t .cells) family) (s .presence) slot index
+  unfolding runRow
+  run-row-with Pre slot index l m ne = ap (λ (c : List ℕ). c ++ keep true (markAt f (s .presence) slot index ∷ [])) (tabulate-ext _ _ _ (λ k n. p .cell slot k index l n m (ne refl)))
+  run-row-with Post slot index l m ne = ap (λ (c : List ℕ). c ++ keep true (markAt f (s .presence) slot index ∷ [])) (tabulate-ext _ _ _ (λ k n. q .cell slot k index l n m (ne refl)))
+  run-row-with FrameStart slot index l m ne = refl
+  run-row-with Item slot index l m ne = refl
+  run-row-with FrameEnd slot index l m ne = refl
+  run-row-with FodPlatform slot index l m ne = refl
+  run-row-with DreamlandWhispy slot index l m ne = refl
+  run-row-with StadiumTransformation slot index l m ne = refl
+
+  run-with : (number slot a b room : ℕ) → (ofPlayers (familyOf number) ≡ true → slotPort f slot ≡ port → ⊥) → runRefusal f s number slot a b room ≡ 0
+      → runCells f s (familyOf number) slot a b ≡ runCells f t (familyOf number) slot a b
+  run-with number slot a b room ne e =
+      let r = running f s number slot a b room e in
+      ranged-same _ _ a (b - a) (λ i _ l. run-row-with (familyOf number) slot i (r .slot-in) (omega (arith, r .inside, r .range, l)) ne)
+
+-- two calls for a run that are refused alike, and show the same cells where they are not
+run-outcome : {f h : Frames} {s t : Lent} (number slot a b : ℕ) {out first second : List ℕ} {q r : Run} → runRefusal f s number slot a b (length out) ≡ runRefusal h t number slot a b (length out)
+    → runLength f (familyOf number) a b ≡ runLength h (familyOf number) a b
+    → (runRefusal f s number slot a b (length out) ≡ 0 → runCells f s (familyOf number) slot a b ≡ runCells h t (familyOf number) slot a b)
+    → RowsOutcome f s number slot a b out q first → RowsOutcome h t number slot a b out r second → (q ≡ r) × (first ≡ second)
+unfolding unlessRefused
+run-outcome {f} {h} {s} {t} number slot a b {out} {first} {second} e l same x y =
+    (x .answer-is ∙ ap₂ runAnswer e l ∙ sym (y .answer-is), x .out-is ∙ go (runRefusal f s number slot a b (length out)) refl ∙ sym (y .out-is))
+  where
+    shown : ℕ → List ℕ → List ℕ
+    shown n c = unlessRefused n (splice out 0 c) out
+
+    go : (n : ℕ) → runRefusal f s number slot a b (length out) ≡ n
+        → shown (runRefusal f s number slot a b (length out)) (runCells f s (familyOf number) slot a b)
+        ≡ shown (runRefusal h t number slot a b (length out)) (runCells h t (familyOf number) slot a b)
+    go zero z = ap₂ shown e (same z)
+    go (suc n) z = rw (← e, z)
 
 -- ---- for two games that the rows' judge accepts
-pub rows-apart : {f : Frames} {port : ℕ} {s t : Lent} → CardApart f port s t → lowest (refusals f s 0 0) ≡ 0 → lowest (refusals f t 0 0) ≡ 0 → RowsApart f port s t
-rows-apart {f} {port} {s} {t} a x y =
-    subst (λ (l : Lent). RowsApart f port s l) (lent-is a)
-    (rows-with f port s (t .cells .pres) (t .cells .posts) (a .pres) (a .posts) x (ap (λ (l : Lent). lowest (refusals f l 0 0)) (lent-is a) ∙ y))
+pub rows-apart : {f h : Frames} {port : ℕ} {s t : Lent} → SamePlayers f h → CardApart f h port s t → lowest (refusals f s 0 0) ≡ 0 → lowest (refusals h t 0 0) ≡ 0 → RowsApart f h port s t
+rows-apart {f} {h} {port} {s} {t} p a x y =
+    let ps = h .ports in
+    let pres = t .cells .pres in
+    let posts = t .cells .posts in
+    let bits = t .presence in
+    let mid = withPlayers s pres posts in
+    let sp = players-as p in
+    let q : SamePresence f (withPorts f ps) (mid .presence) bits = presence-as p (a .presence) in
+    let far : lowest (refusals (withPorts f ps) (withPresence mid bits) 0 0) ≡ 0 = ap₂ (λ (u : Frames) (l : Lent). lowest (refusals u l 0 0)) (ports-are p) (lent-is a) ∙ y in
+    let near : lowest (refusals f mid 0 0) ≡ 0 = accepted-too f ps sp s (withPresence mid bits) 0 0 x far in
+    let both : RowsApart f (withPorts f ps) port s (withPresence mid bits) = record {
+      pre = λ slot index ne. pre-with f port s pres posts (a .pres) (a .posts) x near slot index ne ∙ pre-same f ps sp mid bits q near far slot index;
+      post = λ slot index ne. post-with f port s pres posts (a .pres) (a .posts) x near slot index ne ∙ post-same f ps sp mid bits q near far slot index;
+      item = λ index. ap (λ (n : ℕ). rowAnswer itemAnswer n (itemOf (cellsAt f Item (s .cells .items) 0 index) (f .version)) noItem) (one-refusal f port s pres posts (a .pres) (a .posts) x near Item 0 index) ∙ item-same f ps sp mid bits q near far index;
+      fod-platform = λ index. ap (λ (n : ℕ). rowAnswer fodPlatformAnswer n (fodPlatformOf (cellsAt f FodPlatform (s .cells .fods) 0 index) (f .version)) noFodPlatform) (one-refusal f port s pres posts (a .pres) (a .posts) x near FodPlatform 0 index) ∙ fod-same f ps sp mid bits q near far index;
+      dreamland-whispy = λ index. ap (λ (n : ℕ). rowAnswer dreamlandWhispyAnswer n (dreamlandWhispyOf (cellsAt f DreamlandWhispy (s .cells .whispys) 0 index) (f .version)) noDreamlandWhispy) (one-refusal f port s pres posts (a .pres) (a .posts) x near DreamlandWhispy 0 index) ∙ whispy-same f ps sp mid bits q near far index;
+      stadium-transformation = λ index. ap (λ (n : ℕ). rowAnswer stadiumTransformationAnswer n (stadiumTransformationOf (cellsAt f StadiumTransformation (s .cells .stadiums) 0 index) (f .version)) noStadiumTransformation) (one-refusal f port s pres posts (a .pres) (a .posts) x near StadiumTransformation 0 index) ∙ stadium-same f ps sp mid bits q near far index;
+      frame = λ index. subst (λ (r : FrameRow). FrameApart f port (frameRow f s index) r) (frame-row-same f ps sp mid bits q near far index) (frame-with f port s pres posts (a .pres) (a .posts) x near index);
+      run = λ number slot i j ne {out} o1 o2.
+          run-outcome number slot i j
+          (run-refusal-with f port s pres posts (a .pres) (a .posts) x near number slot i j (length out) ∙ run-refusal-same f ps sp mid bits q near far number slot i j (length out)) refl
+          (λ e. run-with f port s pres posts (a .pres) (a .posts) x near number slot i j (length out) ne e
+          ∙ run-same f ps sp mid bits q near far number slot i j (length out) (sym (run-refusal-with f port s pres posts (a .pres) (a .posts) x near number slot i j (length out)) ∙ e)) o1 o2;
+    } in
+    subst (λ (u : Frames). RowsApart f u port s t) (ports-are p) (subst (λ (l : Lent). RowsApart f (withPorts f ps) port s l) (lent-is a) both)
 
 -- ---- what the writer accepts, the rows' judge accepts
 
@@ -222,6 +278,6 @@ rows-accepted g s e =
     sym (skip 1 _ _ _ one (skip 2 _ _ _ (few-too (g .frames) a b two) (sym r2)))
 
 -- for two games that the writer accepts
-pub game-rows-apart : {g : Game} {port : ℕ} {s t : Stores} → Agree g port s t → lowest (judged g s) ≡ 0 → lowest (judged g t) ≡ 0
-    → RowsApart (g .frames) port (s .lent) (t .lent)
-game-rows-apart {g} {port} {s} {t} a x y = rows-apart (a .lent) (rows-accepted g s x) (rows-accepted g t y)
+pub game-rows-apart : {g h : Game} {port : ℕ} {s t : Stores} → Agree g h port s t → lowest (judged g s) ≡ 0 → lowest (judged h t) ≡ 0
+    → RowsApart (g .frames) (h .frames) port (s .lent) (t .lent)
+game-rows-apart {g} {h} {port} {s} {t} a x y = rows-apart (a .players) (a .lent) (rows-accepted g s x) (rows-accepted h t y)

@@ -16,6 +16,9 @@ use Rattle.game.specs.Frames.{noPort, noSlot, portsOf, slotsOf, rowsOf}
 use Rattle.game.specs.Stores.{Lent, Stores}
 use Rattle.game.specs.declared.Game.{Game}
 use Rattle.game.specs.declared.frames.Frames.{Frames}
+use Rattle.players.specs.Presence.{presentAt}
+use Rattle.run_rows.specs.Run.{familyOf, ofPlayers, RowsOutcome}
+use Rattle.run_rows.specs.declared.run.Run.{Run}
 use Rattle.transpose.specs.Ports.{noPortData}
 use Rattle.transpose.specs.Answers.{preRow, postRow, itemRow, fodPlatformRow, dreamlandWhispyRow, stadiumTransformationRow, frameRow}
 use Rattle.transpose.specs.declared.frame.FrameRow.{FrameRow}
@@ -36,9 +39,22 @@ pub record SameElsewhere (f : Frames) (port : ℕ) (family : Family) (a b : List
       → getD a ((block * length (widthsOf family (f .version)) + column) * rowsOf f family + row) 0
       ≡ getD b ((block * length (widthsOf family (f .version)) + column) * rowsOf f family + row) 0
 
--- what is lent with the frames agrees in all but the port's Pre and Post cells; presence is equal
-pub record CardApart (f : Frames) (port : ℕ) (s t : Lent) : Type 0 where
-  pub presence : s .presence ≡ t .presence
+-- two frame inputs have the same version, counts, ports and followers, however many presence bytes each player has
+pub record SamePlayers (f h : Frames) : Type 0 where
+  pub version : f .version ≡ h .version
+  pub counts : f .counts ≡ h .counts
+  pub port-count : f .«port_count» ≡ h .«port_count»
+  pub port : (k : ℕ) → columnPort f k ≡ columnPort h k
+  pub follower : (k : ℕ) → getD (portsOf f) k noPort .follower ≡ getD (portsOf h) k noPort .follower
+
+-- presence says the same of every player in every frame: no bytes may stand against bytes that say yes, and spare bits may be any
+pub record SamePresence (f h : Frames) (bits other : List ℕ) : Type 0 where
+  pub in-frame : (k i : ℕ) → k < length (slotsOf f) → i < f .counts .frames
+      → presentAt bits (getD (slotsOf f) k noSlot) i ≡ presentAt other (getD (slotsOf h) k noSlot) i
+
+-- what is lent with the frames agrees in all but the port's Pre and Post cells; presence says the same
+pub record CardApart (f h : Frames) (port : ℕ) (s t : Lent) : Type 0 where
+  pub presence : SamePresence f h (s .presence) (t .presence)
   pub ids : s .cells .ids ≡ t .cells .ids
   pub starts : s .cells .starts ≡ t .cells .starts
   pub pres : SameElsewhere f port Pre (s .cells .pres) (t .cells .pres)
@@ -50,9 +66,16 @@ pub record CardApart (f : Frames) (port : ℕ) (s t : Lent) : Type 0 where
   pub stadiums : s .cells .stadiums ≡ t .cells .stadiums
   pub offsets : s .offsets ≡ t .offsets
 
--- two games of one value g, which is version, counts, port columns, marks, start and end: all else that is lent with them is equal too
-pub record Agree (g : Game) (port : ℕ) (s t : Stores) : Type 0 where
-  pub lent : CardApart (g .frames) port (s .lent) (t .lent)
+-- two games of one version, with the same counts, players, start, end and marks: all else that is lent with them is equal too
+pub record Agree (g h : Game) (port : ℕ) (s t : Stores) : Type 0 where
+  pub players : SamePlayers (g .frames) (h .frames)
+  pub start : g .start ≡ h .start
+  pub end : g .end ≡ h .end
+  pub double-end : g .«double_end» ≡ h .«double_end»
+  pub codes-given : g .«codes_given» ≡ h .«codes_given»
+  pub metadata-given : g .«metadata_given» ≡ h .«metadata_given»
+  pub actual-size : g .«actual_size» ≡ h .«actual_size»
+  pub lent : CardApart (g .frames) (h .frames) port (s .lent) (t .lent)
   pub template : s .template ≡ t .template
   pub codes : s .codes ≡ t .codes
   pub metadata : s .metadata ≡ t .metadata
@@ -108,12 +131,14 @@ pub record FrameApart (f : Frames) (port : ℕ) (a b : FrameRow) : Type 0 where
   pub stadium-transformations : a .row .«stadium_transformations» ≡ b .row .«stadium_transformations»
   pub ports : (k : ℕ) → (columnPort f k ≡ port → ⊥) → getD (a .row .ports) k noPortData ≡ getD (b .row .ports) k noPortData
 
--- all rows: those of the other ports' slots, of the items and of the stages are equal, and a frame's differ at most in the port's players
-pub record RowsApart (f : Frames) (port : ℕ) (s t : Lent) : Type 0 where
-  pub pre : (slot index : ℕ) → (slotPort f slot ≡ port → ⊥) → preRow f s slot index ≡ preRow f t slot index
-  pub post : (slot index : ℕ) → (slotPort f slot ≡ port → ⊥) → postRow f s slot index ≡ postRow f t slot index
-  pub item : (index : ℕ) → itemRow f s index ≡ itemRow f t index
-  pub fod-platform : (index : ℕ) → fodPlatformRow f s index ≡ fodPlatformRow f t index
-  pub dreamland-whispy : (index : ℕ) → dreamlandWhispyRow f s index ≡ dreamlandWhispyRow f t index
-  pub stadium-transformation : (index : ℕ) → stadiumTransformationRow f s index ≡ stadiumTransformationRow f t index
-  pub frame : (index : ℕ) → FrameApart f port (frameRow f s index) (frameRow f t index)
+-- all rows: those of the other ports' slots, of the items and of the stages are equal, and a frame's differ at most in the port's players; so do runs of rows
+pub record RowsApart (f h : Frames) (port : ℕ) (s t : Lent) : Type 0 where
+  pub pre : (slot index : ℕ) → (slotPort f slot ≡ port → ⊥) → preRow f s slot index ≡ preRow h t slot index
+  pub post : (slot index : ℕ) → (slotPort f slot ≡ port → ⊥) → postRow f s slot index ≡ postRow h t slot index
+  pub item : (index : ℕ) → itemRow f s index ≡ itemRow h t index
+  pub fod-platform : (index : ℕ) → fodPlatformRow f s index ≡ fodPlatformRow h t index
+  pub dreamland-whispy : (index : ℕ) → dreamlandWhispyRow f s index ≡ dreamlandWhispyRow h t index
+  pub stadium-transformation : (index : ℕ) → stadiumTransformationRow f s index ≡ stadiumTransformationRow h t index
+  pub frame : (index : ℕ) → FrameApart f port (frameRow f s index) (frameRow h t index)
+  pub run : (number slot a b : ℕ) → (ofPlayers (familyOf number) ≡ true → slotPort f slot ≡ port → ⊥) → {out first second : List ℕ} {q r : Run}
+      → RowsOutcome f s number slot a b out q first → RowsOutcome h t number slot a b out r second → (q ≡ r) × (first ≡ second)
