@@ -17,19 +17,17 @@ use Rattle.ser.proofs.Answered.{written-file}
 use Rattle.grammar.specs.Productions.{Replay}
 use Rattle.grammar_games.specs.Tree.{replayOf}
 use Rattle.found.specs.Found.{Found, versionOf, tooBig}
-use Rattle.reading.specs.Game.{Kept, keptRead, placesIn, gameRead}
+use Rattle.reading.specs.Game.{Kept, keptRead, lengthsOf, placesIn, gameRead}
 use Rattle.reading.specs.Read.{measuredIn, unopened, openedIn, keptShort, keptOver, MeasureOutcome, ReadOutcome, early, none, big, short, found}
 use Rattle.reading.specs.declared.Measured.{Measured}
 use Rattle.reading.specs.declared.Opened.{Opened}
 use Rattle.saved_again.specs.Admitted.{Admitted}
-use Rattle.saved_again.specs.Again.{fronts, storesFrom, storesRead}
+use Rattle.saved_again.specs.Again.{LongEnough, fronts, storesFrom, storesRead}
+use Rattle.saved_again.proofs.Agree.{not-both, long-kept, too-short}
 use Rattle.saved_again.proofs.Found as in-file
 use Rattle.saved_again.proofs.Again.{game-back}
 use Rattle.saved_again.proofs.Accepted.{accepted-again}
 use Rattle.saved_again.proofs.Fronts.{fronts-read}
-
-not-both : {b : Bool} → b ≡ true → b ≡ false → ⊥
-not-both p q = let z : _≡_ {A = ℕ} 0 1 = ap (λ (c : Bool). cond c 0 1) (sym p ∙ q) in omega arith
 
 -- an answer that is a file
 file-long : (k n m : ℕ) → writtenNumbers (File n) ≡ writtenNumbers (answered k m) → n ≡ m
@@ -44,7 +42,7 @@ module _ {g : Game} {s : Stores} (a : Admitted g s) where
   r = replayOf g s
 
   -- what is to go into the stores
-  abbrev pub needed : Kept
+  abbrev needed : Kept
   needed = keptRead (versionOf f) r
 
   not-big : (x : Found f) → tooBig (versionOf f) (x .replay) ≡ false
@@ -58,24 +56,24 @@ module _ {g : Game} {s : Stores} (a : Admitted g s) where
   measured (big z x p e) = absurd (not-both p (not-big x))
   measured (found z x p e) = e ∙ ap (measuredIn f) (in-file.only a x)
 
-  module _ {given : Kept} {x : Opened} {after : Kept} where
-    -- stores that are long enough take it
-    pub opened : keptShort given needed ≡ false → ReadOutcome f given x after → (x ≡ openedIn f r) × (after ≡ keptOver given needed)
-    opened h (early p e q) = absurd (p (in-file.not-early a))
-    opened h (none z p e q) = absurd (p (in-file.found a))
-    opened h (big z y p e q) = absurd (not-both p (not-big y))
-    opened h (short z y p l e q) = absurd (not-both l (ap (λ (t : Replay). keptShort given (keptRead (versionOf f) t)) (in-file.only a y) ∙ h))
-    opened h (found z y p l e q) =
+  no-store-short : {m : Measured} {given : Kept} → MeasureOutcome f m → LongEnough (m .lengths) given → keptShort given needed ≡ false
+  no-store-short {m} {given} o l =
+      let lengths-are : m .lengths ≡ lengthsOf needed = ap (λ (y : Measured). y .lengths) (measured o) in
+      long-kept given needed (rw lengths-are at l)
+
+  module _ {m : Measured} {given : Kept} {x : Opened} {after : Kept} (o : MeasureOutcome f m) where
+    -- stores that are as long as `measure` says take it
+    pub opened : LongEnough (m .lengths) given → ReadOutcome f given x after → (x ≡ openedIn f r) × (after ≡ keptOver given needed)
+    opened l (early p e q) = absurd (p (in-file.not-early a))
+    opened l (none z p e q) = absurd (p (in-file.found a))
+    opened l (big z y p e q) = absurd (not-both p (not-big y))
+    opened l (short z y p h e q) = absurd (not-both h (ap (λ (t : Replay). keptShort given (keptRead (versionOf f) t)) (in-file.only a y) ∙ no-store-short o l))
+    opened l (found z y p h e q) =
         (e ∙ ap (openedIn f) (in-file.only a y), q ∙ ap (λ (t : Replay). keptOver given (keptRead (versionOf f) t)) (in-file.only a y))
 
     -- with one that is not it is refused, and for nothing else
-    pub refused-short : keptShort given needed ≡ true → ReadOutcome f given x after → (x ≡ unopened 12 0) × (after ≡ given)
-    refused-short h (early p e q) = absurd (p (in-file.not-early a))
-    refused-short h (none z p e q) = absurd (p (in-file.found a))
-    refused-short h (big z y p e q) = absurd (not-both p (not-big y))
-    refused-short h (short z y p l e q) = (e, q)
-    refused-short h (found z y p l e q) =
-        absurd (not-both h (sym (ap (λ (t : Replay). keptShort given (keptRead (versionOf f) t)) (in-file.only a y)) ∙ l))
+    pub refused-short : (LongEnough (m .lengths) given → ⊥) → ReadOutcome f given x after → (x ≡ unopened 12 0) × (after ≡ given)
+    refused-short l read = too-short f given o (ap (λ (y : Measured). y .refused) (measured o)) read l
 
   -- ---- and write again
 
@@ -98,14 +96,15 @@ module _ {g : Game} {s : Stores} (a : Admitted g s) where
     is : saved ≡ f
     is = written-file o
 
-    -- the file that `write` left, measured and read into stores that are long enough, and written from what these calls gave
-    pub saved-again : {m : Measured} {given : Kept} {x : Opened} {after : Kept} (again again′ : List ℕ) (w : Written) → keptShort given needed ≡ false → n ≤ length again
+    -- the file that `write` left, measured, read into stores that are as long as `measure` says, and written from what these calls gave
+    pub saved-again : {m : Measured} {given : Kept} {x : Opened} {after : Kept} (again again′ : List ℕ) (w : Written) → LongEnough (m .lengths) given → n ≤ length again
         → MeasureOutcome saved m → ReadOutcome saved given x after → Outcome (x .game) (storesFrom saved (x .places) (fronts (m .lengths) after)) again w again′
         → (writtenNumbers w ≡ writtenNumbers (File n)) × (again′ ≡ splice again 0 saved)
     saved-again {m} {given} {x} {after} again again′ w fits room measure read write =
-        let e = measured (subst (λ (l : List ℕ). MeasureOutcome l m) is measure) in
-        let (q, t) = opened fits (subst (λ (l : List ℕ). ReadOutcome l given x after) is read) in
-        let fronts-are : fronts (m .lengths) after ≡ needed = ap₂ (λ (y : Measured) (k : Kept). fronts (y .lengths) k) e t ∙ fronts-read given needed fits in
+        let seen : MeasureOutcome f m = subst (λ (l : List ℕ). MeasureOutcome l m) is measure in
+        let e = measured seen in
+        let (q, t) = opened seen fits (subst (λ (l : List ℕ). ReadOutcome l given x after) is read) in
+        let fronts-are : fronts (m .lengths) after ≡ needed = ap₂ (λ (y : Measured) (k : Kept). fronts (y .lengths) k) e t ∙ fronts-read given needed (no-store-short seen fits) in
         let stores-are : storesFrom saved (x .places) (fronts (m .lengths) after) ≡ storesRead f r =
         ap₂ (λ (l : List ℕ) (y : Opened). storesFrom l (y .places) (fronts (m .lengths) after)) is q ∙ ap (storesFrom f (placesIn f r)) fronts-are in
         let game-is : x .game ≡ gameRead f r = ap (λ (y : Opened). y .game) q in

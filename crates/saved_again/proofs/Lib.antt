@@ -4,4 +4,5 @@ pub mod Again
 pub mod Returned
 pub mod Accepted
 pub mod Fronts
+pub mod Agree
 pub mod Calls

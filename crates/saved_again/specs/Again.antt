@@ -1,8 +1,8 @@
 -- What is given to `write` to save again what was read: the fronts of the stores that were filled, and the parts of the file that `read` names.
 -- Assumes nothing.
-use Prim.Native.Nat.{ℕ}
+use Prim.Native.Nat.{ℕ, _≤_}
 use mathlib.Core.List.{List}
-use lib.ListN.{take}
+use lib.ListN.{length, take}
 use Rattle.wire.specs.Wire.{part}
 use Rattle.game.specs.Stores.{lent, cells, offsets, Stores, stores}
 use Rattle.grammar.specs.Productions.{Replay}
@@ -10,6 +10,24 @@ use Rattle.needs.specs.declared.Lengths.{Lengths}
 use Rattle.found.specs.Found.{versionOf}
 use Rattle.reading.specs.Game.{Kept, kept, keptRead, placesIn}
 use Rattle.reading.specs.declared.Places.{Places}
+
+-- each store is as long as `measure` says
+pub record LongEnough (n : Lengths) (k : Kept) : Type 0 where
+  pub ids : n .ids ≤ length (k .lent .cells .ids)
+  pub starts : n .starts ≤ length (k .lent .cells .starts)
+  pub pres : n .pres ≤ length (k .lent .cells .pres)
+  pub posts : n .posts ≤ length (k .lent .cells .posts)
+  pub ends : n .ends ≤ length (k .lent .cells .ends)
+  pub items : n .items ≤ length (k .lent .cells .items)
+  pub fods : n .fods ≤ length (k .lent .cells .fods)
+  pub whispys : n .whispys ≤ length (k .lent .cells .whispys)
+  pub stadiums : n .stadiums ≤ length (k .lent .cells .stadiums)
+  pub item-offsets : n .«item_offsets» ≤ length (k .lent .offsets .items)
+  pub fod-offsets : n .«fod_offsets» ≤ length (k .lent .offsets .fods)
+  pub whispy-offsets : n .«whispy_offsets» ≤ length (k .lent .offsets .whispys)
+  pub stadium-offsets : n .«stadium_offsets» ≤ length (k .lent .offsets .stadiums)
+  pub presence : n .presence ≤ length (k .lent .presence)
+  pub codes : n .codes ≤ length (k .codes)
 
 -- the start of each store, as long as `measure` says
 unfoldable pub fronts : Lengths → Kept → Kept
