@@ -49,6 +49,7 @@ use Rattle.outline.specs.Listed.{listedRight, codesBytes}
 use Rattle.found.specs.Found.{opensWrong, versionSaid, versionOf, earlyRefusal, geckoSpan, Found, tooBig}
 use Rattle.saved_again.specs.Admitted.{Admitted}
 use Rattle.found.proofs.Places as parts
+use Rattle.saved_again.proofs.Limits.{somebody-shows, changing-frames}
 use Rattle.saved_again.proofs.Listed.{span-is, listed-right}
 
 pub joined-is : (bs : List Block) → codesBytes bs ≡ joined bs
@@ -93,8 +94,8 @@ module _ {g : Game} {s : Stores} (a : Admitted g s) where
   shown = go (hasFamily v FrameStart) refl
     where
       go : (b : Bool) → hasFamily v FrameStart ≡ b → (i : ℕ) → i < g .frames .counts .frames → shows (g .frames) (s .lent) i ≡ true
-      go true e = all-shown (g .frames) (s .lent) e
-      go false e = a .somebody e
+      go true e i l = all-shown (g .frames) (s .lent) e i l
+      go false e i l = somebody-shows (g .frames) (s .lent) i (a .somebody e i l)
 
   pub given : Given (g .frames) (s .lent)
   given = given-of g s took shown
@@ -166,7 +167,7 @@ module _ {g : Game} {s : Stores} (a : Admitted g s) where
       (listed-right v (yes (g .«codes_given»)) (g .«actual_size») (length (r .codes)) (usedIn (r .codes)) since (codes-are .1) (λ e. ap length (none-given e)))
 
   pub readable : Readable v r
-  readable = good.readable g s took (a .changing) (back.types-written v (g .start) (s .template) (a .start) (p .start) long (a .empty))
+  readable = good.readable g s took (λ e. changing-frames (g .frames) (s .lent) shown (a .changing e)) (back.types-written v (g .start) (s .template) (a .start) (p .start) long (a .empty))
 
   abbrev pub found : Found f
   found = record {

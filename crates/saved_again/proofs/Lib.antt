@@ -1,3 +1,4 @@
+pub mod Limits
 pub mod Listed
 pub mod Found
 pub mod Again

@@ -1,21 +1,28 @@
--- The games that request 2026-01 is about: those that `write` accepts, within its limits.
+-- The games that request 2026-01 is about: those that `write` accepts, within its limits. That seat texts hold no zero byte, which the request asks too, is no
+-- limit any more: `write` refuses 9 for such a text, so that acceptance says it.
 -- Assumes nothing.
 use Prim.Native.Nat.{ℕ, _+_, _*_, _^_, _<_}
 use mathlib.Core.Path.{_≡_}
 use mathlib.Core.Bool.{true, false}
-use lib.ListN.{getD}
+use lib.ListN.{length, getD}
 use Rattle.format.specs.Mark.{yes}
 use Rattle.layout.specs.Columns.{hasFamily}
 use Rattle.layout.specs.declared.columns.Family.the-variants.{FrameStart}
-use Rattle.game.specs.Frames.{noPort}
-use Rattle.game.specs.Stores.{Stores}
+use Rattle.game.specs.Frames.{noPort, noSlot, slotsOf}
+use Rattle.game.specs.Stores.{Lent, Stores}
 use Rattle.game.specs.Zero.{noSeat}
 use Rattle.game.specs.declared.Game.{Game}
+use Rattle.game.specs.declared.frames.Frames.{Frames}
+use Rattle.players.specs.Presence.{presentAt}
 use Rattle.start_read.specs.Start.{byteAt}
 use Rattle.start_back.specs.Declared.{U8, Bytes, Declared}
 use Rattle.ser.specs.Write.{refusal}
-use Rattle.grammar.specs.Readable.{Changing}
-use Rattle.grammar_games.specs.Tree.{shows, framesOf}
+
+-- somebody is in frame i: the presence of one of the slots says so
+pub record Somebody (f : Frames) (s : Lent) (i : ℕ) : Type 0 where
+  pub slot : ℕ
+  pub there : slot < length (slotsOf f)
+  pub present : presentAt (s .presence) (getD (slotsOf f) slot noSlot) i ≡ true
 
 pub record Admitted (g : Game) (s : Stores) : Type 0 where
   -- `write` accepts it, given this much room
@@ -32,5 +39,6 @@ pub record Admitted (g : Game) (s : Stores) : Type 0 where
   pub order : (j k : ℕ) → j < k → k < g .frames .«port_count» → getD (g .frames .ports) j noPort .port < getD (g .frames .ports) k noPort .port
   pub empty : (n : ℕ) → n < 4 → yes (getD (g .start .seats) n noSeat .given) ≡ false → byteAt (s .template) (101 + 36 * n) ≡ 3
   -- before 2.2 neighbouring frames have unlike ids, and each has somebody in it
-  pub changing : hasFamily (g .frames .version) FrameStart ≡ false → Changing (framesOf (g .frames) (s .lent))
-  pub somebody : hasFamily (g .frames .version) FrameStart ≡ false → (i : ℕ) → i < g .frames .counts .frames → shows (g .frames) (s .lent) i ≡ true
+  pub changing : hasFamily (g .frames .version) FrameStart ≡ false → (i : ℕ) → i + 1 < g .frames .counts .frames
+      → getD (s .lent .cells .ids) i 0 ≡ getD (s .lent .cells .ids) (i + 1) 0 → ⊥
+  pub somebody : hasFamily (g .frames .version) FrameStart ≡ false → (i : ℕ) → i < g .frames .counts .frames → Somebody (g .frames) (s .lent) i
