@@ -7,3 +7,4 @@ pub mod Accepted
 pub mod Fronts
 pub mod Agree
 pub mod Calls
+pub mod Witnesses
