@@ -24,8 +24,10 @@ use Rattle.reading.specs.declared.Opened.{Opened}
 use Rattle.saved_again.specs.Admitted.{Admitted}
 use Rattle.saved_again.specs.Again.{LongEnough, fronts, storesFrom, storesRead}
 use Rattle.saved_again.proofs.Agree.{not-both, long-kept, too-short}
+use Rattle.saved_again.specs.Returned.{GameReturned}
 use Rattle.saved_again.proofs.Found as in-file
 use Rattle.saved_again.proofs.Again.{game-back}
+use Rattle.saved_again.proofs.Returned as back
 use Rattle.saved_again.proofs.Accepted.{accepted-again}
 use Rattle.saved_again.proofs.Fronts.{fronts-read}
 
@@ -96,18 +98,32 @@ module _ {g : Game} {s : Stores} (a : Admitted g s) where
     is : saved ≡ f
     is = written-file o
 
-    -- the file that `write` left, measured, read into stores that are as long as `measure` says, and written from what these calls gave
+    -- what `measure` and `read` give of the file that `write` left, in stores that are as long as `measure` says
+    came-back : {m : Measured} {given : Kept} {x : Opened} {after : Kept} → LongEnough (m .lengths) given → MeasureOutcome saved m → ReadOutcome saved given x after
+        → (x .game ≡ gameRead f r) × (storesFrom saved (x .places) (fronts (m .lengths) after) ≡ storesRead f r)
+    came-back {m} {given} {x} {after} fits measure read =
+        let seen : MeasureOutcome f m = subst (λ (l : List ℕ). MeasureOutcome l m) is measure in
+        let e = measured seen in
+        let (q, t) = opened seen fits (subst (λ (l : List ℕ). ReadOutcome l given x after) is read) in
+        let fronts-are : fronts (m .lengths) after ≡ needed = ap₂ (λ (y : Measured) (k : Kept). fronts (y .lengths) k) e t ∙ fronts-read given needed (no-store-short seen fits) in (
+          ap (λ (y : Opened). y .game) q,
+          ap₂ (λ (l : List ℕ) (y : Opened). storesFrom l (y .places) (fronts (m .lengths) after)) is q ∙ ap (storesFrom f (placesIn f r)) fronts-are,
+        )
+
+    -- it is what was given to `write`, field by field
+    pub returned : {m : Measured} {given : Kept} {x : Opened} {after : Kept} → LongEnough (m .lengths) given → MeasureOutcome saved m → ReadOutcome saved given x after
+        → GameReturned g s (x .game) (storesFrom saved (x .places) (fronts (m .lengths) after))
+    returned {m} {given} {x} {after} fits measure read =
+        let (game-is, stores-are) = came-back fits measure read in
+        subst (λ (y : Game). GameReturned g s y (storesFrom saved (x .places) (fronts (m .lengths) after))) (sym game-is)
+        (subst (λ (y : Stores). GameReturned g s (gameRead f r) y) (sym stores-are) (back.returned a))
+
+    -- and written again it is the same file
     pub saved-again : {m : Measured} {given : Kept} {x : Opened} {after : Kept} (again again′ : List ℕ) (w : Written) → LongEnough (m .lengths) given → n ≤ length again
         → MeasureOutcome saved m → ReadOutcome saved given x after → Outcome (x .game) (storesFrom saved (x .places) (fronts (m .lengths) after)) again w again′
         → (writtenNumbers w ≡ writtenNumbers (File n)) × (again′ ≡ splice again 0 saved)
     saved-again {m} {given} {x} {after} again again′ w fits room measure read write =
-        let seen : MeasureOutcome f m = subst (λ (l : List ℕ). MeasureOutcome l m) is measure in
-        let e = measured seen in
-        let (q, t) = opened seen fits (subst (λ (l : List ℕ). ReadOutcome l given x after) is read) in
-        let fronts-are : fronts (m .lengths) after ≡ needed = ap₂ (λ (y : Measured) (k : Kept). fronts (y .lengths) k) e t ∙ fronts-read given needed (no-store-short seen fits) in
-        let stores-are : storesFrom saved (x .places) (fronts (m .lengths) after) ≡ storesRead f r =
-        ap₂ (λ (l : List ℕ) (y : Opened). storesFrom l (y .places) (fronts (m .lengths) after)) is q ∙ ap (storesFrom f (placesIn f r)) fronts-are in
-        let game-is : x .game ≡ gameRead f r = ap (λ (y : Opened). y .game) q in
+        let (game-is, stores-are) = came-back fits measure read in
         let (answer, left) = written-again again again′ w (omega (arith, long, room))
         (subst (λ (y : Game). Outcome y (storesRead f r) again w again′) game-is (subst (λ (y : Stores). Outcome (x .game) y again w again′) stores-are write)) in
         (answer ∙ ap (λ (k : ℕ). writtenNumbers (File k)) (sym long), left ∙ ap (splice again 0) (sym is))
