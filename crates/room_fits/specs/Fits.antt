@@ -10,7 +10,8 @@ use Rattle.game.specs.Frames.{noSlot, slotsOf}
 use Rattle.game.specs.Stores.{Stores}
 use Rattle.game.specs.declared.Game.{Game}
 use Rattle.players.specs.Presence.{presentAt}
-use Rattle.ser.specs.Write.{givenBytes}
+use Rattle.ser.specs.Write.{givenBytes, file, refusal}
+use Rattle.room.specs.Room.{roomOf, AtMost}
 use Rattle.room.specs.declared.Plan.{Plan}
 
 -- version, block, slots and rows as they are; codes and metadata that are not given have no bytes
@@ -32,3 +33,12 @@ pub record Fullest (g : Game) (s : Stores) : Type 0 where
   pub doubled : yes (g .«double_end») ≡ true
   pub metadata : yes (g .«metadata_given») ≡ true
   pub codes : gteOf (g .frames .version) 3 3 ≡ true → yes (g .«codes_given») ≡ true
+
+-- there is a game that takes all the room of a plan: it is accepted, no count of it is above the plan's, and its file has as many bytes as are reserved
+pub record TakesAll (p : Plan) : Type 0 where
+  pub game : Game
+  pub stores : Stores
+  pub accepted : refusal game stores (roomOf p) ≡ 0
+  pub within : AtMost (planOf game stores) p
+  pub fullest : Fullest game stores
+  pub all : length (file game stores) ≡ roomOf p
