@@ -115,6 +115,7 @@ module _ (f : Frames) (lent : Lent) (family : Family) (m : Shape) (h : ShapeOf f
     few = omega (arith, h .columns .few, h .columns .room);
     narrow = rw (h .columns .each) (narrow-of family (f .version));
     total = h .columns .total ∙ ap sum (sym (h .columns .each));
+    slim = h .columns .small;
     block = h .block;
     small = h .small;
     whole = rw (e, h .block, h .columns .columns, h .rows) (r .stores family);

@@ -3,3 +3,4 @@ pub mod Sizes
 pub mod Lengths
 pub mod EightLaws
 pub mod AlikeLaws
+pub mod PlaceLaws

@@ -16,7 +16,8 @@ use Rattle.layout.specs.declared.columns.Family.{Family}
 use Rattle.layout.specs.declared.columns.Family.the-variants.{Pre, Post, FrameStart, Item, FrameEnd, FodPlatform, DreamlandWhispy, StadiumTransformation}
 use Rattle.record.specs.Record.{recordOf}
 use Rattle.record.specs.declared.Head.{Head}
-use Rattle.players.specs.Inner.{Eight, Modest, Ranges}
+use Rattle.players.specs.Inner.{Modest, Ranges}
+use Rattle.places.specs.Inner.{Seated}
 use Rattle.game.specs.Frames.{rowsOf, slotBlocks}
 use Rattle.game.specs.Stores.{Offsets, Lent, cellsOf, offsetsOf}
 use Rattle.players.specs.Presence.{marked}
@@ -105,6 +106,7 @@ pub record LaidOut (m : Shape) (cells : List ℕ) (blocks : ℕ) : Type 0 where
   pub few : m .count ≤ length (m .widths)
   pub narrow : Narrow (columnsIn m)
   pub total : m .bytes ≡ sum (columnsIn m)
+  pub slim : m .bytes ≤ 128
   pub block : m .block ≡ m .count * m .rows
   pub small : m .block ≤ 134217728
   pub whole : length cells ≡ blocks * m .block
@@ -117,11 +119,6 @@ pub record PerFrame (m : Shape) (cells : List ℕ) (blocks n : ℕ) : Type 0 whe
 pub record PerOffset (m : Shape) (cells offsets : List ℕ) (n : ℕ) : Type 0 where
   pub laid : LaidOut m cells 1
   pub ranges : m .given ≡ true → Ranges n (m .rows) offsets
-
--- the slots, as many as there are arrays for
-pub record Seated (s : Slots) : Type 0 where
-  pub few : s .count ≤ 8
-  pub eight : Eight s
 
 -- all that is written of n frames is there
 pub record Supplied (p : Shapes) (s : Slots) (lent : Lent) (n : ℕ) : Type 0 where

@@ -2,7 +2,7 @@
 -- Assumes nothing.
 use mathlib.Core.Path.{_≡_, refl, sym, ap, _∙_}
 use mathlib.Core.Bool.{Bool, true, false, cond}
-use mathlib.Core.List.{List, [], _∷_}
+use mathlib.Core.List.{List}
 use Prim.Native.Nat.{ℕ, zero, suc, _%_, _^_, _≤_, _<_, min}
 use native.Mathlib.Nat.{mod-lt, mod-one, mod-eq-of-lt, pow-suc, pow-le-pow-right, lt-of-lt-of-le}
 use native.Mathlib.Decide.{decLt}
@@ -10,46 +10,16 @@ use native.Mathlib.Omega.{arith}
 use borrow.Author.Tests.{eqb-true, ne-eqb, lt-ltb, le-ltb}
 use lib.Dec.{ltb, eqb, lit<}
 use lib.ListN.{length, getD, List·getD-eq-default}
-use Rattle.wire.specs.Wire.{tabulate}
 use Rattle.wire.proofs.Laws.{tabulate-ext}
-use Rattle.format.specs.Version.{gteOf}
 use Rattle.format.specs.declared.version.Version.{Version}
-use Rattle.layout.specs.Columns.{col, columnsOf, chosen, widthsOf}
-use Rattle.layout.specs.Inner.{countOf}
-use Rattle.layout.specs.declared.columns.Column.{Column}
+use Rattle.layout.specs.Columns.{widthsOf}
 use Rattle.layout.specs.declared.columns.Family.{Family}
-use Rattle.layout.proofs.Laws.{count-is, few-widths}
-use Rattle.layout.proofs.Prefix.{rule}
+use Rattle.layout.proofs.Laws.{few-widths}
 use Rattle.rows.specs.Cells.{firstCells}
 use Rattle.rows.specs.Inner.{widthAt, Within}
 use Rattle.rows.proofs.Records.{first-in, first-out, width-first, within-record}
-use Rattle.rows.proofs.Lacking.{before-lacking, before-had}
 use Rattle.given_rows.specs.Given.{givenCells}
 use Rattle.given_rows.specs.Inner.{Kept, lowOf, narrowed}
-
--- ---- how many columns a version has
-fewer : {A B : Type 0} (p : A → Bool) (g : A → B) (xs : List A) → length (chosen p g xs) ≤ length xs
-unfolding chosen
-fewer p g [] = omega arith
-fewer p g (x ∷ xs) = go (p x) (fewer p g xs)
-  where
-    go : (b : Bool) → length (chosen p g xs) ≤ length xs → length (cond b (g x ∷ chosen p g xs) (chosen p g xs)) ≤ suc (length xs)
-    go true h = omega (arith, h)
-    go false h = omega (arith, h)
-
-pub at-most : (f : Family) (v : Version) → length (widthsOf f v) ≤ countOf f
-at-most f v = omega (arith, count-is f, fewer (λ (c : Column). gteOf v (c .major) (c .minor)) (λ (c : Column). c .width) (columnsOf f))
-
-module _ (f : Family) (v : Version) (n : ℕ) (h : n < length (columnsOf f)) where
-  abbrev column : Column
-  column = getD (columnsOf f) n (col 0 0 0)
-
-  -- the last one that it has, and one that it has not
-  pub last-had : gteOf v (column .major) (column .minor) ≡ true → n < length (widthsOf f v)
-  last-had e = before-had v (columnsOf f) (rule f) n h e
-
-  pub not-had : gteOf v (column .major) (column .minor) ≡ false → length (widthsOf f v) ≤ n
-  not-had e = before-lacking v (columnsOf f) (rule f) n h e
 
 -- ---- the first cells, of which some may be missing
 pub first-enough : (cells : List ℕ) (n m : ℕ) → m ≡ min n (length cells) → firstCells (λ k. getD cells k 0) m ≡ firstCells (λ k. getD cells k 0) n

@@ -10,7 +10,7 @@ ghost use Rattle.given_rows.specs.Inner.{Kept};
 use super::narrow::narrow;
 use format::version::Version;
 use layout::columns::Family;
-use layout::columns::nth;
+use layout::listing::columns;
 use rows::item::Item;
 use rows::item::item_of;
 use rows::post::Post;
@@ -27,22 +27,6 @@ use rows::small::fod_platform_of;
 use rows::small::frame_end_of;
 use rows::small::frame_start_of;
 use rows::small::stadium_transformation_of;
-
-// How many columns a version's record has. A version has the first of its family's columns, so they are passed from the last one on: of the newest
-// version one is looked at.
-fn columns_in(family: Family, version: Version) -> usize
-    ensures { λ r. ⌜ (r ≡ length (widthsOf family version)) × (r ≤ 32) ⌝ }
-{
-    let mut n = family.count();
-    while 0 < n {
-        let c = nth(family, n - 1);
-        if version.gte(c.major, c.minor) {
-            return n;
-        }
-        n -= 1;
-    }
-    0
-}
 
 fn less(a: usize, b: usize) -> usize
     ensures { λ r. ⌜ r ≡ min a b ⌝ }
@@ -71,7 +55,7 @@ fn filled(cells: &[u32], n: usize) -> [u32; 32]
 fn given_cells(family: Family, version: Version, cells: &[u32]) -> [u32; 32]
     ensures { λ r. ⌜ Kept family version (now (cells .entry)) r ⌝ }
 {
-    let n = columns_in(family, version);
+    let n = columns(family, version);
     narrow(family, filled(cells, n))
 }
 

@@ -212,10 +212,19 @@ fn entry(i: usize) -> Column
     }
 }
 
-// The i-th of the columns that a family ever had: the only reader of the table.
+// The i-th of the columns that a family ever had. This and its width below are the only readers of the table.
 pub fn nth(f: Family, i: usize) -> Column
     requires { ⌜ i < length (columnsOf f) ⌝ }
     ensures { λ r. ⌜ r ≡ getD (columnsOf f) i (col 0 0 0) ⌝ }
 {
     entry(f.first() + i)
+}
+
+// The width of the same column by itself: of a version's columns nothing else is wanted.
+pub fn width_of(f: Family, i: usize) -> u8
+    requires { ⌜ i < length (columnsOf f) ⌝ }
+    ensures { λ r. ⌜ r ≡ getD (columnsOf f) i (col 0 0 0) .width ⌝ }
+{
+    let x = COLUMNS[f.first() + i];
+    (x / 1_000_000 % 256) as u8
 }

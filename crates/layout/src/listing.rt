@@ -7,6 +7,7 @@ ghost use Rattle.layout.specs.Columns.{widthsOf, sizeOf};
 ghost use Rattle.layout.specs.Inner.{Widths, RunsOf};
 use super::columns::Family;
 use super::columns::nth;
+use super::columns::width_of;
 use format::version::Version;
 
 // The columns of a version's record: how many, their bytes, and the width of each.
@@ -16,25 +17,37 @@ pub struct Listing {
     pub widths: [u8; 32],
 }
 
+// How many columns a version's record has. A version has the first of its family's columns, so they are passed from the last one on: of the newest
+// version one is looked at.
+pub fn columns(f: Family, v: Version) -> usize
+    ensures { λ r. ⌜ (r ≡ length (widthsOf f v)) × (r ≤ 32) ⌝ }
+{
+    let mut n = f.count();
+    while 0 < n {
+        let c = nth(f, n - 1);
+        if v.gte(c.major, c.minor) {
+            return n;
+        }
+        n -= 1;
+    }
+    0
+}
+
 pub fn widths(f: Family, v: Version) -> Listing
     ensures { λ r. ⌜ Widths f v (r .count) (r .bytes) (r .widths) ⌝ }
 {
-    let count = f.count();
+    let count = columns(f, v);
     let mut widths = [0u8; 32];
-    let mut n: usize = 0;
     let mut bytes: usize = 0;
-    let mut i = 0;
+    let mut i: usize = 0;
     while i < count {
-        let c = nth(f, i);
+        let w = width_of(f, i);
+        widths[i] = w;
+        bytes += wire::wide(w);
         i += 1;
-        if v.gte(c.major, c.minor) {
-            widths[n] = c.width;
-            bytes += c.width as usize;
-            n += 1;
-        }
     }
     Listing {
-        count: n,
+        count,
         bytes,
         widths,
     }
@@ -90,14 +103,7 @@ pub fn runs_of(f: Family, v: Version) -> Runs
     }
 }
 
-// How many columns a version's record has, and how many bytes they take.
-pub fn columns(f: Family, v: Version) -> usize
-    ensures { λ r. ⌜ (r ≡ length (widthsOf f v)) × (r ≤ 32) ⌝ }
-{
-    let c = widths(f, v);
-    c.count
-}
-
+// How many bytes the columns of a version's record take.
 pub fn size(f: Family, v: Version) -> usize
     ensures { λ r. ⌜ (r ≡ sizeOf f v) × (r ≤ 128) ⌝ }
 {

@@ -1,5 +1,6 @@
-/* Games whose frames stop being alike at every place: the library writes eight frames that are like the one before them together, and reads the events of
- * eight frames together. Every file is compared with the model's, over an output that just fits, and what is read from it with the model's reading. */
+/* Games whose frames stop being alike at every place: the library writes eight frames that have the same players together, whatever rows of items and of the
+ * stages stand between them, and reads the events of eight frames together. Every file is compared with the model's, over an output that just fits, and
+ * what is read from it with the model's reading. */
 #include <stdlib.h>
 #include <string.h>
 

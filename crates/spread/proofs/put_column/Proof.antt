@@ -1,44 +1,40 @@
 -- `spread::put_column` meets its contract.
 -- Assumes nothing.
-use Prim.Native.Nat.{_-_}
+use Prim.Native.Nat.{_+_, _-_, _≤_}
 use native.Mathlib.Omega.{arith}
+use mathlib.Core.Path.{refl}
+use lib.ListN.{length, getD}
 use Rattle.wire.proofs.Laws.{length-be}
-use Rattle.spread.specs.Inner.{cellAt}
-use Rattle.spread.proofs.Laws.{Strewing, strewing-start, strewing-step, strewing-done, strewing-at}
+use Rattle.spread.specs.Inner.{cellAt, placeAt, Strewn}
+use Rattle.spread.proofs.Laws.{strewn-start, strewn-step, strewn-length, strewn-done}
 use Rattle.spread.proofs.put_column.Statement.{statement}
 use Rattle.spread.proofs.put_column.Tie as tie
 
 abbrev Inv-loop : tie.InvT-loop
-Inv-loop out₀ at step cells first p₀ t₀ out p t = Strewing out₀ at step (cellAt cells first) 8 out p t
+Inv-loop out₀ places i off cells first t₀ out t = (t ≤ 8) × Strewn out₀ out (placeAt places i off) (cellAt cells first) t
 
 abbrev μ-loop : tie.MeasureT-loop
-μ-loop out₀ at step cells first p₀ t₀ out p t = 8 - t
+μ-loop out₀ places i off cells first t₀ out t = 8 - t
 
 loop-holds : tie.Need-loop-holds Inv-loop μ-loop
-loop-holds c = strewing-start
+loop-holds c = (omega arith, strewn-start)
+
+-- where a turn's cell goes
+reach : (c : tie.In-loop Inv-loop μ-loop) → let s = c .before .before .before .before .before in getD (s .args .places .now) (s .args .i + c .before .loop .t) 0 + (s .args .off + 4) ≤ length (s .args .out .now)
+reach c = c .before .before .before .before .before .pre .2 (c .before .loop .t) (c .loop-test .taken)
 
 put-u32-requires : tie.Need-put-u32-requires Inv-loop μ-loop
-put-u32-requires c κs =
-    let l = c .before .before .before .loop in
-    let s = c .before .before .before .before .before .before in
-    record { fits = rw length-be (omega (arith, strewing-at (l .inv) 7 (omega arith), s .pre .1, l .inv .same)) }
-
-add-p : tie.Need-add-p Inv-loop μ-loop
-add-p c =
-    let l = c .before .before .before .before .before .before .loop in
-    let s = c .before .before .before .before .before .before .before .before .before in
-    omega (arith, strewing-at (l .inv) 7 (omega arith), s .pre .1)
+put-u32-requires c κs = record { fits = rw length-be (omega (arith, reach (c .before .before .before), strewn-length (c .before .before .before .before .loop .t) (c .before .before .before .before .loop .inv .1))) }
 
 loop-again : tie.Need-loop-again Inv-loop μ-loop
-loop-again c =
-    let l = c .before .before .before .before .before .before .loop in
-    strewing-step (l .inv) (c .before .before .before .before .before .loop-test .taken) (c .before .before .put-u32 .ensures)
+unfolding placeAt
+loop-again c = (omega (arith, c .before .before .before .before .before .before .loop-test .taken), strewn-step (c .before .before .before .before .before .before .before .loop .t) (c .before .before .before .before .before .before .before .loop .inv .1) (c .before .before .put-u32 .ensures) refl)
 
 same-length : tie.Need-same-length Inv-loop μ-loop
-same-length c = c .before .loop .inv .same
+same-length c = strewn-length (c .before .loop .t) (c .before .loop .inv .1)
 
 returns : tie.Need-returns Inv-loop μ-loop
-returns c = strewing-done (c .before .loop .inv) (c .loop-test .left)
+returns c = strewn-done (c .before .loop .t) (c .before .loop .inv .1) (c .before .loop .inv .0) (c .loop-test .left)
 
 pub put-column-spec : {M : Type 1} → statement M
 put-column-spec =
@@ -47,11 +43,14 @@ put-column-spec =
     Inv-loop
     μ-loop
     loop-holds
-    (λ c. omega arith)
-    (λ c. omega arith)
-    (λ c. omega arith)
+    (λ c. omega (arith, c .before .before .before .before .before .pre .1, c .loop-test .taken, c .before .before .before .before .before .good))
+    (λ c. omega (arith, c .before .before .before .before .before .pre .1, c .loop-test .taken, c .before .before .before .before .before .good))
+    (λ c. omega (arith, c .before .before .before .before .before .before .pre .1, c .before .loop-test .taken))
+    (λ c. omega (arith, reach (c .before), c .before .before .before .before .before .before .good))
+    (λ c. omega (arith, c .before .before .before .before .before .before .before .pre .0, c .before .before .loop-test .taken, c .before .before .before .before .before .before .before .good))
+    (λ c. omega (arith, c .before .before .before .before .before .before .before .pre .0, c .before .before .loop-test .taken, c .before .before .before .before .before .before .before .good))
+    (λ c. omega (arith, c .before .before .before .before .before .before .before .before .pre .0, c .before .before .before .loop-test .taken))
     put-u32-requires
-    add-p
     (λ c. omega arith)
     (λ c. omega arith)
     loop-again

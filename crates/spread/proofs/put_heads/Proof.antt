@@ -1,58 +1,46 @@
--- `spread::put_heads` meets its contract.
+-- `spread::put_heads` meets its contract: part by part.
 -- Assumes nothing.
-use Prim.Native.Nat.{_-_}
+use Prim.Native.Nat.{_+_}
 use native.Mathlib.Omega.{arith}
-use Rattle.spread.specs.Inner.{headAt}
-use Rattle.spread.proofs.Laws.{Strewing, strewing-start, strewing-step, strewing-done, strewing-at, head-at}
+use lib.ListN.{length}
+use Rattle.record.specs.Record.{playerBytes}
+use Rattle.spread.specs.Inner.{Reach}
+use Rattle.spread.proofs.Laws.{heads-room, heads-strewn, strewn-length}
 use Rattle.spread.proofs.put_heads.Statement.{statement}
 use Rattle.spread.proofs.put_heads.Tie as tie
 
-abbrev Inv-loop : tie.InvT-loop
-Inv-loop out₀ at step h ids i p₀ t₀ out p t = Strewing out₀ at step (headAt h ids i) 8 out p t
+-- room for a head at each place, as numbers
+room : (c : tie.Start) → let a = c .args in Reach (a .out .now) (a .places .now) (a .i) (a .off + (5 + length (playerBytes (a .h))))
+room c = let a = c .args in heads-room (a .h) (a .ids .now) (a .j) (a .places .now) (a .i) (a .off) (c .pre .2)
 
-abbrev μ-loop : tie.MeasureT-loop
-μ-loop out₀ at step h ids i p₀ t₀ out p t = 8 - t
+put-codes-requires : tie.Need-put-codes-requires
+put-codes-requires c κs = let s = c .before .before .before .before in (s .pre .1, λ t l. omega (arith, room s t l))
 
-loop-holds : tie.Need-loop-holds Inv-loop μ-loop
-loop-holds c = strewing-start
+put-ids-requires : tie.Need-put-ids-requires
+put-ids-requires c κs = let s = c .before .before .before .before .before .before .before .before in (s .pre .0, s .pre .1, λ t l. omega (arith, room s t l, strewn-length 8 (c .before .before .before .put-codes .ensures)))
 
-put-head-requires : tie.Need-put-head-requires Inv-loop μ-loop
-put-head-requires c κs =
-    let l = c .before .before .before .loop in
-    let s = c .before .before .before .before .before .before in
-    record { fits = omega (arith, head-at (s .args .h) (s .args .ids .now) (s .args .i) (l .t), strewing-at (l .inv) 7 (omega arith), s .pre .1, l .inv .same) }
+put-players-requires : tie.Need-put-players-requires
+put-players-requires c κs =
+    let s = c .before .before .before .before .before .before .before .before .before .before .before .before in
+    (s .pre .1, λ t l. omega (arith, room s t l, strewn-length 8 (c .before .before .before .before .before .before .before .put-codes .ensures), strewn-length 8 (c .before .before .before .put-ids .ensures)))
 
-add-p : tie.Need-add-p Inv-loop μ-loop
-add-p c =
-    let l = c .before .before .before .before .before .before .loop in
-    let s = c .before .before .before .before .before .before .before .before .before in
-    omega (arith, strewing-at (l .inv) 7 (omega arith), s .pre .1)
+same-length : tie.Need-same-length
+same-length c = omega (arith, c .before .before .before .before .before .before .before .before .before .before .put-codes .kept .0, c .before .before .before .before .before .before .put-ids .kept .0, c .before .before .put-players .kept .0)
 
-loop-again : tie.Need-loop-again Inv-loop μ-loop
-loop-again c =
-    let l = c .before .before .before .before .before .before .loop in
-    strewing-step (l .inv) (c .before .before .before .before .before .loop-test .taken) (c .before .before .put-head .ensures)
-
-same-length : tie.Need-same-length Inv-loop μ-loop
-same-length c = c .before .loop .inv .same
-
-returns : tie.Need-returns Inv-loop μ-loop
-returns c = strewing-done (c .before .loop .inv) (c .loop-test .left)
+returns : tie.Need-returns
+returns c =
+    let s = c .before .before .before .before .before .before .before .before .before .before .before .before .before .before .before in
+    let a = s .args in
+    heads-strewn (a .h) (a .ids .now) (a .j) (a .places .now) (a .i) (a .off) (s .pre .2) (c .before .before .before .before .before .before .before .before .before .before .put-codes .ensures) (c .before .before .before .before .before .before .put-ids .ensures) (c .before .before .put-players .ensures)
 
 pub put-heads-spec : {M : Type 1} → statement M
 put-heads-spec =
     tie.close
     (tie.spec
-    Inv-loop
-    μ-loop
-    loop-holds
-    (λ c. omega arith)
-    (λ c. omega arith)
-    (λ c. omega arith)
-    put-head-requires
-    add-p
-    (λ c. omega arith)
-    (λ c. omega arith)
-    loop-again
+    put-codes-requires
+    (λ c. omega (arith, room (c .before .before .before .before .before .before .before .before) 0 (omega arith), c .before .before .before .before .before .before .before .before .good))
+    put-ids-requires
+    (λ c. omega (arith, room (c .before .before .before .before .before .before .before .before .before .before .before .before) 0 (omega arith), c .before .before .before .before .before .before .before .before .before .before .before .before .good))
+    put-players-requires
     same-length
     returns)

@@ -1,54 +1,61 @@
--- `events::eights::put_eight` meets its contract: part after part.
+-- `events::eights::put_eight` meets its contract.
 -- Assumes nothing.
+use lib.ListN.{length-replicate}
 use native.Mathlib.Omega.{arith}
 use borrow.Author.Needs.{needs}
-use Rattle.events.proofs.EightLaws.{room-1, room-2, room-3, room-4, eight-sown}
+use Rattle.game.specs.Stores.{Lent, cells, offsets, lent}
+use Rattle.events.proofs.PlaceLaws.{slim-of, ranges-all, begins-fit, calm-absent, laid-rooms, laid-apiece, laid-wrote}
 use Rattle.events.proofs.eights.put_eight.Statement.{statement}
 use Rattle.events.proofs.eights.put_eight.Tie as tie
 
-put-ones-requires : tie.Need-put-ones-requires
-put-ones-requires c κs =
-    let s = c .before .before .before .before .before .before .before .before in
-    let a = s .args in
-    let g = s .pre .0 .0 in
-    (g .laid, omega (arith, g .rows, s .pre .2), s .pre .2, room-1 (a .shapes) (a .s) (a .starts .now) (a .pres .now) (a .posts .now) (a .ends .now) (a .presence .now) (a .ids .now) (a .i) (s .pre .5))
+-- all that is lent
+abbrev all : (c : tie.Start) → Lent
+all c =
+    let a = c .args in
+    lent (cells (a .ids .now) (a .starts .now) (a .pres .now) (a .posts .now) (a .ends .now) (a .items .now) (a .fods .now) (a .whispys .now) (a .stadiums .now)) (offsets (a .item-offsets .now) (a .fod-offsets .now) (a .whispy-offsets .now) (a .stadium-offsets .now)) (a .presence .now)
 
-put-teams-requires : tie.Need-put-teams-requires
-put-teams-requires c κs =
-    let c1 = c .before .before .before in
-    let s = c1 .before .before .before .before .before .before .before .before .before in
-    let a = s .args in
-    let g = s .pre .0 .1 in
-    (g .laid, s .pre .3, omega (arith, g .rows, s .pre .2), omega (arith, g .rows, s .pre .1), s .pre .2, s .pre .4, room-2 (a .shapes) (a .s) (a .starts .now) (a .pres .now) (a .posts .now) (a .ends .now) (a .presence .now) (a .ids .now) (a .i) (s .pre .5) (c1 .put-ones .ensures))
+spans-of-requires : tie.Need-spans-of-requires
+spans-of-requires c κs = let s = c .before .before .before .before .before .before .before .before .before .before .before .before .before .before .before in (s .pre .0 .seats, slim-of (s .args .shapes) (s .args .s) (all s) _ (s .pre .0))
 
-put-teams-requires-2 : tie.Need-put-teams-requires-2
-put-teams-requires-2 c κs =
-    let c2 = c .before .before .before in
-    let c1 = c2 .before .before .before .before in
-    let s = c1 .before .before .before .before .before .before .before .before .before in
+is-calm-requires : tie.Need-is-calm-requires
+is-calm-requires c κs =
+    let s = c .before .before .before .before .before .before .before .before .before .before .before .before .before .before .before .before in
     let a = s .args in
-    let g = s .pre .0 .2 in
-    (g .laid, s .pre .3, omega (arith, g .rows, s .pre .2), omega (arith, g .rows, s .pre .1), s .pre .2, s .pre .4, room-3 (a .shapes) (a .s) (a .starts .now) (a .pres .now) (a .posts .now) (a .ends .now) (a .presence .now) (a .ids .now) (a .i) (s .pre .5) (c1 .put-ones .ensures) (c2 .put-teams .ensures))
+    (ranges-all (a .shapes) (a .s) (all s) _ (a .i) (s .pre .0) (s .pre .2) (c .spans-of .result) (c .spans-of .ensures), omega arith, s .pre .1)
 
-put-ones-requires-2 : tie.Need-put-ones-requires-2
-put-ones-requires-2 c κs =
-    let c3 = c .before .before .before in
-    let c2 = c3 .before .before .before .before in
-    let c1 = c2 .before .before .before .before in
-    let s = c1 .before .before .before .before .before .before .before .before .before in
+lay-out-requires : tie.Need-lay-out-requires
+lay-out-requires c κs =
+    let s = c .before .before .before .before .before .before .before .before .before .before .before .before .before .before .before .before .before .before in
     let a = s .args in
-    let g = s .pre .0 .3 in
-    (g .laid, omega (arith, g .rows, s .pre .2), s .pre .2, room-4 (a .shapes) (a .s) (a .starts .now) (a .pres .now) (a .posts .now) (a .ends .now) (a .presence .now) (a .ids .now) (a .i) (s .pre .5) (c1 .put-ones .ensures) (c2 .put-teams .ensures) (c3 .put-teams2 .ensures))
+    let h = c .before .before .spans-of .ensures in
+    let z = c .before .before .spans-of .result in
+    (length-replicate 16 (a .at), ranges-all (a .shapes) (a .s) (all s) _ (a .i) (s .pre .0) (s .pre .2) z h, h .short, s .pre .1, s .pre .0 .frames, omega (arith, begins-fit (a .shapes) (a .s) (all s) _ (a .i) (s .pre .0) (s .pre .2) z h (s .pre .3), s .good), c .before .is-calm .ensures)
+
+put-parts-requires : tie.Need-put-parts-requires
+put-parts-requires c κs =
+    let s = c .before .before .before .before .before .before .before .before .before .before .before .before .before .before .before .before .before .before .before .before .before .before in
+    let a = s .args in
+    let h = c .before .before .before .before .before .before .spans-of .ensures in
+    let z = c .before .before .before .before .before .before .spans-of .result in
+    let d = c .before .before .before .lay-out .ensures in
+    (s .pre .0, s .pre .1, s .pre .2, laid-apiece (a .shapes) (a .s) (all s) _ (a .i) (s .pre .0) (s .pre .2) z h d, laid-rooms (a .shapes) (a .s) (all s) _ (a .i) (s .pre .0) (s .pre .2) z h d (s .pre .3), calm-absent (a .shapes) (a .s) (all s) _ (a .i) (s .pre .0) (s .pre .2) z h (c .before .before .before .before .before .is-calm .result) (c .before .before .before .before .before .is-calm .ensures))
 
 returns : tie.Need-returns
 returns c =
-    let c4 = c .before .before in
-    let c3 = c4 .before .before .before .before in
-    let c2 = c3 .before .before .before .before in
-    let c1 = c2 .before .before .before .before in
-    let s = c1 .before .before .before .before .before .before .before .before .before in
+    let s = c .before .before .before .before .before .before .before .before .before .before .before .before .before .before .before .before .before .before .before .before .before .before .before .before .before in
     let a = s .args in
-    eight-sown (a .shapes) (a .s) (a .starts .now) (a .pres .now) (a .posts .now) (a .ends .now) (a .presence .now) (a .ids .now) (a .i) (s .pre .5) (c1 .put-ones .ensures) (c2 .put-teams .ensures) (c3 .put-teams2 .ensures) (c4 .put-ones2 .ensures)
+    laid-wrote (a .shapes) (a .s) (all s) _ (a .i) (s .pre .0) (s .pre .2) (c .before .before .before .before .before .before .before .before .before .spans-of .result) (c .before .before .before .before .before .before .before .before .before .spans-of .ensures) (c .before .before .before .before .before .before .lay-out .ensures) (c .before .before .put-parts .ensures)
 
 pub put-eight-spec : {M : Type 1} → statement M
-put-eight-spec = tie.close (tie.spec put-ones-requires put-teams-requires put-teams-requires-2 put-ones-requires-2 (λ c. search needs) returns)
+put-eight-spec =
+    tie.close
+    (tie.spec
+    spans-of-requires
+    (λ c. omega (arith, c .before .before .before .before .before .before .before .before .before .before .before .before .before .before .before .before .pre .1, c .before .before .before .before .before .before .before .before .before .before .before .before .before .before .before .before .pre .0 .frames))
+    is-calm-requires
+    (λ c. search needs)
+    lay-out-requires
+    (λ c. search needs)
+    put-parts-requires
+    (λ c. search needs)
+    returns)

@@ -5,6 +5,7 @@ use Prim.Native.Nat.{_+_, _-_, _*_, _≤_}
 use native.Mathlib.Omega.{arith}
 use borrow.Author.Needs.{needs}
 use Rattle.spread.proofs.Laws.{Rest, rest-start, rest-skip, rest-room, rest-step, rest-done, rooms-as, sown-as}
+use Rattle.spread.specs.Inner.{placeAt}
 use Rattle.events.specs.Eights.{playersOn, playerOn, playersFrom}
 use Rattle.events.proofs.Laws.{row-in, next-first, first-small}
 use Rattle.events.proofs.EightLaws.{players-start, players-step, players-done, player-here, player-gone}
@@ -12,54 +13,54 @@ use Rattle.events.proofs.eights.put_teams.Statement.{statement}
 use Rattle.events.proofs.eights.put_teams.Tie as tie
 
 abbrev Inv-loop : tie.InvT-loop
-Inv-loop out₀ at step cells presence ids i m s p₀ first₀ k₀ out p first k =
+Inv-loop out₀ places x off cells presence ids i m s p₀ first₀ k₀ out p first k =
     (k ≤ s .count)
     × (first ≡ k * m .block + i)
-    × Rest out₀ at step (playersOn m s cells presence ids i) out p (playersFrom m s cells presence ids i k)
+    × Rest out₀ (placeAt places x off) (playersOn m s cells presence ids i) out (placeAt places x p) (playersFrom m s cells presence ids i k)
 
 abbrev μ-loop : tie.MeasureT-loop
-μ-loop out₀ at step cells presence ids i m s p₀ first₀ k₀ out p first k = s .count - k
+μ-loop out₀ places x off cells presence ids i m s p₀ first₀ k₀ out p first k = s .count - k
 
 loop-holds : tie.Need-loop-holds Inv-loop μ-loop
 loop-holds c = (omega arith, omega arith, rest-skip _ rest-start (λ t h. players-start _ _ _ _ _ _ t))
 
 add-first : tie.Need-add-first Inv-loop μ-loop
 add-first c =
-    let s = c .before .before .before .before .before .before .before .before .before .before .before in
+    let s = c .before .before .before .before .before .before .before .before .before .before .before .before in
     let l = c .before .before .before .before .before .before .loop in
-    omega (arith, first-small (s .args .t4 .block) (l .k) (s .args .i) (l .first) (omega arith) (s .pre .0 .small) (omega arith) (l .inv .1))
+    omega (arith, first-small (s .args .t5 .block) (l .k) (s .args .i) (l .first) (omega arith) (s .pre .0 .small) (omega arith) (l .inv .1))
 
 put-eight-rows-requires : tie.Need-put-eight-rows-requires Inv-loop μ-loop
 put-eight-rows-requires c κs =
-    let s = c .before .before .before .before .before .before .before .before .before .before .before .before .before .before .before .before in
+    let s = c .before .before .before .before .before .before .before .before .before .before .before .before .before .before .before .before .before in
     let a = s .args in
     let l = c .before .before .before .before .before .before .before .before .before .before .before .loop in
     let q = s .pre .0 in
     let t = c .before .before .before .before .before .before .before .before .before .before .loop-test .taken in
     let here = sym (c .before .before .before .before .before .is-present .ensures) ∙ c .before .before .before .before .if1 .taken in
-    let inside = row-in (a .t4) (a .cells .now) (a .t5 .count) (l .k) (a .i + 7) q t (omega arith) in
-    let e : l .first + 7 ≡ l .k * a .t4 .block + (a .i + 7) = omega (arith, l .inv .1) in
-    let room = rest-room (playerOn (a .t4) (a .t5) (a .cells .now) (a .presence .now) (a .ids .now) (a .i) (l .k)) (playersFrom (a .t4) (a .t5) (a .cells .now) (a .presence .now) (a .ids .now) (a .i) (l .k + 1)) (l .inv .2) (λ j h. players-step (a .t4) (a .t5) (a .cells .now) (a .presence .now) (a .ids .now) (a .i) (l .k) t j) (s .pre .6) in
-    (q .few, q .total, rw e inside, s .pre .4, rooms-as _ (player-here (a .t4) (a .t5) (a .cells .now) (a .presence .now) (a .ids .now) (a .i) (l .k) (l .first) t (l .inv .1) (s .pre .5) here) room)
+    let inside = row-in (a .t5) (a .cells .now) (a .t6 .count) (l .k) (a .i + 7) q t (omega arith) in
+    let e : l .first + 7 ≡ l .k * a .t5 .block + (a .i + 7) = omega (arith, l .inv .1) in
+    let room = rest-room (playerOn (a .t5) (a .t6) (a .cells .now) (a .presence .now) (a .ids .now) (a .i) (l .k)) (playersFrom (a .t5) (a .t6) (a .cells .now) (a .presence .now) (a .ids .now) (a .i) (l .k + 1)) (l .inv .2) (λ j h. players-step (a .t5) (a .t6) (a .cells .now) (a .presence .now) (a .ids .now) (a .i) (l .k) t j) (s .pre .7) in
+    (q .few, q .total, rw e inside, s .pre .4, s .pre .5, rooms-as _ (player-here (a .t5) (a .t6) (a .cells .now) (a .presence .now) (a .ids .now) (a .i) (l .k) (l .first) t (l .inv .1) (s .pre .6) here) room)
 
 loop-again : tie.Need-loop-again Inv-loop μ-loop
 loop-again c =
-    let s = c .before .before .before .before .before .before .before .before .before .before .before .before .before .before .before .before .before .before .before in
+    let s = c .before .before .before .before .before .before .before .before .before .before .before .before .before .before .before .before .before .before .before .before in
     let a = s .args in
     let l = c .before .before .before .before .before .before .before .before .before .before .before .before .before .before .loop in
     let t = c .before .before .before .before .before .before .before .before .before .before .before .before .before .loop-test .taken in
     let here = sym (c .before .before .before .before .before .before .before .before .is-present .ensures) ∙ c .before .before .before .before .before .before .before .if1 .taken in
-    let sown = sown-as (playerOn (a .t4) (a .t5) (a .cells .now) (a .presence .now) (a .ids .now) (a .i) (l .k)) (λ j h. sym (player-here (a .t4) (a .t5) (a .cells .now) (a .presence .now) (a .ids .now) (a .i) (l .k) (l .first) t (l .inv .1) (s .pre .5) here j h)) (c .before .before .put-eight-rows .ensures) in
-    (omega (arith, t), next-first _ (l .k) _ _ (l .inv .1), rest-step (playerOn (a .t4) (a .t5) (a .cells .now) (a .presence .now) (a .ids .now) (a .i) (l .k)) (playersFrom (a .t4) (a .t5) (a .cells .now) (a .presence .now) (a .ids .now) (a .i) (l .k + 1)) (l .inv .2) (λ j h. players-step (a .t4) (a .t5) (a .cells .now) (a .presence .now) (a .ids .now) (a .i) (l .k) t j) (s .pre .6) sown)
+    let sown = sown-as (playerOn (a .t5) (a .t6) (a .cells .now) (a .presence .now) (a .ids .now) (a .i) (l .k)) (λ j h. sym (player-here (a .t5) (a .t6) (a .cells .now) (a .presence .now) (a .ids .now) (a .i) (l .k) (l .first) t (l .inv .1) (s .pre .6) here j h)) (c .before .before .put-eight-rows .ensures) in
+    (omega (arith, t), next-first _ (l .k) _ _ (l .inv .1), rest-step (playerOn (a .t5) (a .t6) (a .cells .now) (a .presence .now) (a .ids .now) (a .i) (l .k)) (playersFrom (a .t5) (a .t6) (a .cells .now) (a .presence .now) (a .ids .now) (a .i) (l .k + 1)) (l .inv .2) (λ j h. players-step (a .t5) (a .t6) (a .cells .now) (a .presence .now) (a .ids .now) (a .i) (l .k) t j) (s .pre .7) sown)
 
 loop-again-2 : tie.Need-loop-again-2 Inv-loop μ-loop
 loop-again-2 c =
-    let s = c .before .before .before .before .before .before .before .before .before .before .before .before in
+    let s = c .before .before .before .before .before .before .before .before .before .before .before .before .before in
     let a = s .args in
     let l = c .before .before .before .before .before .before .before .loop in
     let t = c .before .before .before .before .before .before .loop-test .taken in
     let gone = sym (c .before .is-present .ensures) ∙ c .if1 .left in
-    (omega arith, next-first _ (l .k) _ _ (l .inv .1), rest-skip (playersFrom (a .t4) (a .t5) (a .cells .now) (a .presence .now) (a .ids .now) (a .i) (l .k + 1)) (l .inv .2) (player-gone (a .t4) (a .t5) (a .cells .now) (a .presence .now) (a .ids .now) (a .i) (l .k) (l .first) t (l .inv .1) (s .pre .5) gone))
+    (omega arith, next-first _ (l .k) _ _ (l .inv .1), rest-skip (playersFrom (a .t5) (a .t6) (a .cells .now) (a .presence .now) (a .ids .now) (a .i) (l .k + 1)) (l .inv .2) (player-gone (a .t5) (a .t6) (a .cells .now) (a .presence .now) (a .ids .now) (a .i) (l .k) (l .first) t (l .inv .1) (s .pre .6) gone))
 
 same-length : tie.Need-same-length Inv-loop μ-loop
 same-length c = c .before .loop .inv .2 .same
