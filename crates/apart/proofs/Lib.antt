@@ -4,3 +4,4 @@ pub mod Players
 pub mod Files
 pub mod Rows
 pub mod Pair
+pub mod Values
