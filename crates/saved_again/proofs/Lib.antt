@@ -8,3 +8,4 @@ pub mod Fronts
 pub mod Agree
 pub mod Calls
 pub mod Witnesses
+pub mod Ways
