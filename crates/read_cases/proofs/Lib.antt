@@ -7,6 +7,7 @@ pub mod OneFrame
 pub mod Full
 pub mod Codes
 pub mod NoReplay
+pub mod NoFrame
 pub mod NotBack
 pub mod Short
 pub mod Outcomes
