@@ -1,5 +1,5 @@
 /* slp: walks Slippi replays, checks them, lists their events, shows their metadata and frames, finds a frame, writes them again, whole or their
- * final frames only, writes a small one, says how much room to reserve. */
+ * final frames only, writes a short match, says how much room to reserve. */
 #include <errno.h>
 #include <fcntl.h>
 #include <getopt.h>
@@ -32,7 +32,7 @@ static const char HELP_COMMANDS[] =
 	"  slp resave IN OUT   reads a replay into columns and writes it again\n"
 	"  slp final IN OUT    the same of the final frames only: of each frame id the\n"
 	"                      last row; says how many rows were dropped\n"
-	"  slp demo OUT        writes a small game and walks it\n"
+	"  slp demo OUT        writes a short match and walks it\n"
 	"  slp room OPTION..   how many bytes to reserve for a replay before its match\n"
 	"                      is known\n"
 	"  slp help            this text (also --help, -h)\n"

@@ -1,5 +1,5 @@
 /* Stands between the tool and the system's calls by which it saves (the linker's --wrap), so that a save can be watched, ended or made to fail
- * before each of them. Files are written 2,048 bytes at a time, so that there are more places. Set in the environment:
+ * before each of them. Files are written 49,152 bytes at a time, so that there are more places. Set in the environment:
  *
  *   POINT=N DOES=WHAT   before the Nth of the calls a signal comes (HUP, INT, TERM, KILL), or instead of it an error (EIO, EINTR)
  *   IGNORED=1           the signals but KILL are ignored from the start, as under nohup
@@ -19,7 +19,7 @@
 #include <sys/stat.h>
 #include <unistd.h>
 
-enum { SHORT_WRITE = 2048 };
+enum { SHORT_WRITE = 49152 };
 
 static long calls, point;
 static unsigned long long bytes_read;

@@ -56,6 +56,18 @@ patched() {
 	printf "$3" | dd of="$1" bs=1 seek="$2" conv=notrunc 2>/dev/null
 }
 
+# Another length of event data in a file's head: declare NAME LENGTH.
+declare_length() {
+	printf "$(printf '\\%03o\\%03o\\%03o\\%03o' $(($2 >> 24 & 255)) $(($2 >> 16 & 255)) $(($2 >> 8 & 255)) $(($2 & 255)))" |
+		dd of="$1" bs=1 seek=11 conv=notrunc 2>/dev/null
+}
+
+# game.slp with another length, so many more bytes: longer_by NAME BYTES
+longer_by() {
+	cp game.slp "$1"
+	declare_length "$1" $((declared + $2))
+}
+
 # ---- usage
 run
 run --help
@@ -93,6 +105,11 @@ run --progress=often walk game.slp
 
 # ---- demo
 guarded demo game.slp
+size=$(stat -c %s game.slp)
+# where its event data ends: 13 bytes of key and braces stand behind it, and a body
+end=$((size - 13 - 65))
+declared=$((end - 15))
+echo "$size bytes, event data to $end"
 run demo game.slp
 run demo missing/game.slp
 to again.slp demo -
@@ -103,7 +120,7 @@ to /dev/full demo -
 guarded walk game.slp
 from game.slp walk -
 from "$stored" walk -
-for n in 0 14 15 16 17 46 47 48 807 808 809 10000 22218 22219 22220 22296; do
+for n in 0 14 15 16 17 46 47 48 807 808 809 10000 $((end - 1)) $end $((end + 1)) $((size - 1)); do
 	head -c $n game.slp >cut.slp
 	echo "cut at $n"
 	run walk cut.slp
@@ -122,26 +139,26 @@ patched signature.slp 0 '\000'
 patched table.slp 16 '\040'
 patched twice.slp 20 '\066'
 patched unknown.slp 808 '\231'
-patched overrun.slp 13 '\126\273'
+longer_by overrun.slp -1
 { cat game.slp; echo more; } >longer.slp
 for f in signature table twice unknown overrun longer; do run walk $f.slp; done
 # a length that is too high, where the events end and the tail begins: over the file's end, within its tail, with one brace; 17, as the code of the
 # brace is in the table; and where no tail ends the file
-patched high.slp 13 '\130\301'
-patched within.slp 13 '\126\301'
-{ head -c 22219 high.slp; printf '}'; } >brace.slp
+longer_by high.slp 517
+longer_by within.slp 5
+{ head -c $end high.slp; printf '}'; } >brace.slp
 cp brace.slp overrun-brace.slp
 printf '}' | dd of=overrun-brace.slp bs=1 seek=44 conv=notrunc 2>/dev/null
-printf '\126\275' | dd of=overrun-brace.slp bs=1 seek=13 conv=notrunc 2>/dev/null
+declare_length overrun-brace.slp $((declared + 1))
 { cat high.slp; printf more; } >high-more.slp
-head -c 22296 high.slp >high-cut.slp
+head -c $((size - 1)) high.slp >high-cut.slp
 for f in high within brace overrun-brace high-more high-cut; do run walk $f.slp; done
 for verb in check events meta table index; do "$slp" $verb high.slp 2>&1 >out | sed -n '$p'; done
 "$slp" find high.slp 0 2>&1 >out | sed -n '$p'
 "$slp" final high.slp never.slp 2>&1 >out | sed -n '$p'
 # a length that was never filled in: with the tail, at the end of the event data, cut, with a damaged table and with no table
 patched tail.slp 11 '\000\000\000\000'
-head -c 22219 tail.slp >unfilled.slp
+head -c $end tail.slp >unfilled.slp
 head -c 5000 tail.slp >unfilled-cut.slp
 head -c 20 tail.slp >unfilled-table.slp
 head -c 15 tail.slp >unfilled-head.slp
@@ -198,7 +215,7 @@ guarded resave longer.slp longer-saved.slp
 cmp longer.slp longer-saved.slp
 # the first frame's second player is away: without its Pre and its Post, which are 152 bytes
 { head -c 888 game.slp; head -c 1040 game.slp | dd bs=955 skip=1 2>/dev/null; dd if=game.slp bs=1125 skip=1 2>/dev/null; } >away.slp
-printf '\126\044' | dd of=away.slp bs=1 seek=13 conv=notrunc 2>/dev/null
+declare_length away.slp $((declared - 152))
 run resave away.slp away-saved.slp
 # a version that is too new, an id of another frame, and files that are cut or cannot be walked
 patched newer.slp 50 '\001'
@@ -218,8 +235,8 @@ guarded table away.slp | cut -d, -f1-8 | sed -n '1,5p;$p'
 patched floats.slp 834 '\075\314\314\315\177\300\000\000\200\000\000\000\377\200\000\000\000\000\000\001\200\177\377\377'
 printf '\200' | dd of=floats.slp bs=1 seek=880 conv=notrunc 2>/dev/null
 "$slp" table floats.slp | head -n 2 | cut -d, -f1-12,19
-# the rows that a rollback replaced: four frames of two players
-awk -F, '$4 == 1 { print $1, $2 }' table.csv
+# the rows that a rollback replaced: by ids, of two players
+awk -F, '$4 == 1 { printf "%s:%s ", $1, $2 } END { print "" }' table.csv
 # a frame of an id that no game has, in all of its six records: then it is left open
 cp game.slp far.slp
 for at in 809 822 889 956 1041 1126; do printf '\177\377\377\377' | dd of=far.slp bs=1 seek=$at conv=notrunc 2>/dev/null; done
@@ -301,7 +318,7 @@ run meta directory
 from "$stored" meta -
 # Other tails behind the same events: tail NAME BYTES, as printf takes them.
 tail() {
-	head -c 22219 game.slp >"$1"
+	head -c $end game.slp >"$1"
 	printf "$2" >>"$1"
 }
 key='U\010metadata{'
@@ -337,7 +354,7 @@ head -c 9 game.slp.spx | od -An -tx1
 wc -c <game.slp.spx
 run index game.slp
 # the last frame of an id that a rollback gave twice, ids round it, the first and the last id, ids that no frame has
-for id in -87 -88 -83 -123 -64 -63 0 2147483647 -2147483648; do run find game.slp $id; done
+for id in 169 165 170 0 -123 1439 -124 1440 2147483647 -2147483648; do run find game.slp $id; done
 guarded find game.slp -64
 run find -- game.slp -64
 from game.slp find - -64
@@ -553,7 +570,7 @@ ls -A saving
 # ---- long files that are refused early are not read to their end
 for length in '\000\000\000\000' '\377\377\377\377'; do
 	patched sparse.slp 11 "$length"
-	head -c 22219 sparse.slp >sparse && mv sparse sparse.slp
+	head -c $end sparse.slp >sparse && mv sparse sparse.slp
 	truncate -s 5G sparse.slp
 	for verb in walk events check; do
 		echo "\$ slp $verb sparse.slp"
