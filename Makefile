@@ -18,7 +18,7 @@ TOOL := target/bin/slp
 TOOL_SOURCES := $(wildcard tools/*.c tools/*.cpp)
 TOOL_OBJECTS := $(addsuffix .o,$(basename $(TOOL_SOURCES:%=target/c/%)))
 # One file of the tool is C++. Its library goes into the tool, which then needs no other than C's.
-TOOL_LINK = $(CXX) $(CFLAGS) $(LDFLAGS) -static-libstdc++ -static-libgcc
+TOOL_LINK = $(CXX) $(CFLAGS) $(LDFLAGS) -pthread -static-libstdc++ -static-libgcc
 
 # Every source of tests/c/programs is a program; they share those of tests/c/shared and tests/c/model.
 PROGRAMS := $(basename $(notdir $(wildcard tests/c/programs/*.c tests/c/programs/*.cpp)))
@@ -26,7 +26,7 @@ SHARED_OBJECTS := $(patsubst %.c,target/c/%.o,$(wildcard tests/c/shared/*.c test
 EXAMPLES := $(basename $(notdir $(wildcard examples/*.c)))
 # Programs that must fail over a library with a fault.
 FAULTED := cases refusals fuzz rows row_runs eights runs final live layout map room apart read read_refusals check index stack
-TESTS := $(PROGRAMS:%=target/c/bin/%) target/c/bin/header_examples target/c/bin/foreign target/c/bin/stack target/c/bin/dying.so target/c/bin/live_runs target/c/bin/slp_points $(EXAMPLES:%=target/c/examples/%) $(FAULTED:%=target/c/faults/%)
+TESTS := $(PROGRAMS:%=target/c/bin/%) target/c/bin/header_examples target/c/bin/foreign target/c/bin/stack target/c/bin/dying.so target/c/bin/live_runs target/c/bin/slp_points target/c/bin/four_players $(EXAMPLES:%=target/c/examples/%) $(FAULTED:%=target/c/faults/%)
 
 .PHONY: all lib tests test test-rust examples install uninstall clean help always
 .DELETE_ON_ERROR:
@@ -96,6 +96,11 @@ target/c/bin/floats: target/c/tests/c/programs/floats.o target/c/tests/c/shared/
 target/c/bin/slp_points: $(TOOL_OBJECTS) target/c/tests/c/points.o $(SLP_LIB)
 	@mkdir -p $(@D)
 	$(TOOL_LINK) $(foreach call,openat read write fsync close fchown fchmod renameat renameat2 linkat unlinkat,-Wl,--wrap=$(call)) -o $@ $^
+
+# An older game for the tool's tests.
+target/c/bin/four_players: target/c/tests/c/four_players.o $(SLP_LIB)
+	@mkdir -p $(@D)
+	$(CC) $(CFLAGS) $(LDFLAGS) -o $@ $^
 
 target/c/bin/%: target/c/tests/c/programs/%.o $(SHARED_OBJECTS) $(SLP_LIB)
 	@mkdir -p $(@D)

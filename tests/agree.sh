@@ -47,11 +47,11 @@ awk '/^columns! \{/ { on = 1; next } /^}/ { on = 0 } on && /^\t[a-z_]*:$/ { fami
 cut -d' ' -f1,2 $to/columns >$to/column-names
 agree 'the columns of layout/specs/Columns.antt and rust/slp' column-names crate-columns
 
-# In the tool a player's columns alone, each by its number and with its name in small letters.
+# In the tool each by its number and with its name in small letters.
 sed -n 's/^\t\[SLP_\([A-Z0-9_]*\)\] = { "\([a-z0-9_]*\)", .*/\1 \2/p' tools/table.c >$to/tool-columns
-awk '$1 == "PRE" || $1 == "POST" { print $1 "_" $2, tolower($1 "_" $2) }' $to/columns | sort >$to/player-columns
+awk '{ print $1 "_" $2, tolower($1 "_" $2) }' $to/columns | sort >$to/small-columns
 sort $to/tool-columns >$to/tool-columns-sorted
-agree 'the columns of layout/specs/Columns.antt and tools/table.c' player-columns tool-columns-sorted
+agree 'the columns of layout/specs/Columns.antt and tools/table.c' small-columns tool-columns-sorted
 
 for program in tests/c/programs/*.c*; do
 	basename "${program%.*}"

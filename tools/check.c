@@ -1,7 +1,6 @@
 /* slp check: whether replays are sound, a line for each. */
 #include <stdio.h>
 #include <stdlib.h>
-#include <string.h>
 
 #include "tool.h"
 
@@ -32,46 +31,39 @@ static void print_answer(const char *prefix, const content *c, slp_checked is)
 	if (prefix)
 		print_prefix(prefix);
 	if (!is.refused)
-		puts("sound");
+		fputs("sound\n", out());
 	else if (is.offset)
-		printf("%u: %s, at byte %zu\n", is.refused, wrong_words(c, is.refused), is.offset);
+		fprintf(out(), "%u: %s, at byte %zu\n", is.refused, wrong_words(c, is.refused), is.offset);
 	else
-		printf("%u: %s\n", is.refused, wrong_words(c, is.refused));
+		fprintf(out(), "%u: %s\n", is.refused, wrong_words(c, is.refused));
 }
 
-enum { IS_SOUND, NOT_SOUND, NOT_READ, ANSWERS };
+static void print_json(const char *path, const content *c, slp_checked is)
+{
+	json j = json_file(path);
+	json_mark(&j, "sound", !is.refused);
+	if (is.refused)
+		json_refused_for(&j, is.refused, is.offset, wrong_words(c, is.refused));
+	json_line(&j);
+}
 
-static int check_file(const char *path, const char *prefix)
+static outcome check_file(const request *q, const char *path)
 {
 	content c;
 	int wrong = load_more(path, LONGEST_TAIL + 1, &c);
-	if (wrong) {
-		complain(input_name(path), "%s", strerror(wrong));
-		return NOT_READ;
-	}
+	if (wrong)
+		return unread(q, path, wrong);
 	slp_checked is = slp_check(c.bytes, c.len);
-	print_answer(prefix, &c, is);
+	if (q->json)
+		print_json(path, &c, is);
+	else
+		print_answer(q->several ? path : NULL, &c, is);
 	complain_length(input_name(path), &c, is.refused, is.offset);
 	free(c.bytes);
-	return is.refused ? NOT_SOUND : IS_SOUND;
-}
-
-static void print_summary(const int counts[ANSWERS], int files)
-{
-	printf("%d of %d sound", counts[IS_SOUND], files);
-	if (counts[NOT_READ])
-		printf(", %d not read", counts[NOT_READ]);
-	putchar('\n');
+	return is.refused ? IS_UNSOUND : IS_SOUND;
 }
 
 int check_files(const request *q)
 {
-	int counts[ANSWERS] = { 0 };
-	progress_begin(q->progress, "reading", total_size(q->files, q->count));
-	for (int i = 0; i < q->count; i++)
-		counts[check_file(q->files[i], q->count > 1 ? q->files[i] : NULL)]++;
-	progress_clear();
-	if (q->count > 1)
-		print_summary(counts, q->count);
-	return counts[IS_SOUND] == q->count ? WELL : FAILED;
+	return each_file(q, check_file);
 }

@@ -1,5 +1,6 @@
-/* A bar on standard error. */
+/* A bar on standard error, which several threads may move. */
 #include <inttypes.h>
+#include <pthread.h>
 #include <stdio.h>
 #include <string.h>
 #include <sys/ioctl.h>
@@ -55,7 +56,7 @@ static void draw(int percent)
 	fflush(stderr);
 }
 
-void progress_add(uint64_t done)
+static void move(uint64_t done)
 {
 	bar.done += done;
 	if (!bar.on || bar.total == 0)
@@ -67,11 +68,32 @@ void progress_add(uint64_t done)
 	draw(bar.drawn);
 }
 
+static pthread_mutex_t lock = PTHREAD_MUTEX_INITIALIZER;
+
+void progress_add(uint64_t done)
+{
+	pthread_mutex_lock(&lock);
+	move(done);
+	pthread_mutex_unlock(&lock);
+}
+
+void progress_hold(void)
+{
+	pthread_mutex_lock(&lock);
+	if (bar.drawn != NOT_DRAWN) {
+		fputs("\r\033[K", stderr);
+		fflush(stderr);
+		bar.drawn = NOT_DRAWN;
+	}
+}
+
+void progress_release(void)
+{
+	pthread_mutex_unlock(&lock);
+}
+
 void progress_clear(void)
 {
-	if (bar.drawn == NOT_DRAWN)
-		return;
-	fputs("\r\033[K", stderr);
-	fflush(stderr);
-	bar.drawn = NOT_DRAWN;
+	progress_hold();
+	progress_release();
 }

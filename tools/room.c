@@ -68,6 +68,31 @@ static size_t shortest_block(slp_plan p)
 	return p.block;
 }
 
+/* A plan's value has no file's name before it. */
+static void json_room(slp_plan *p, slp_reserved r)
+{
+	char version[16];
+	json j = { .to = out() };
+	snprintf(version, sizeof version, "%u.%u.%u", p->version.major, p->version.minor, p->version.patch);
+	json_begin(&j, NULL, '{');
+	if (r.refused)
+		json_refused(&j, r.refused, 0);
+	else
+		json_count(&j, "reserve", r.bytes);
+	json_words(&j, "replay", version);
+	for (size_t k = 0; k < NUMBERS; k++)
+		json_count(&j, NAMES[k], *number(p, k));
+	json_line(&j);
+}
+
+static void print_room(slp_plan *p, slp_reserved r)
+{
+	printf("reserve %zu bytes\n", r.bytes);
+	printf("  %-9s %u.%u.%u\n", "replay", p->version.major, p->version.minor, p->version.patch);
+	for (size_t k = 0; k < NUMBERS; k++)
+		printf("  %-9s %zu%s\n", NAMES[k], *number(p, k), UNITS[k]);
+}
+
 int show_room(const request *q)
 {
 	room_wish w = q->room;
@@ -75,13 +100,11 @@ int show_room(const request *q)
 	if (!w.block_given)
 		p->block = shortest_block(*p);
 	slp_reserved r = slp_room(*p);
-	if (r.refused) {
+	if (q->json)
+		json_room(p, r);
+	else if (!r.refused)
+		print_room(p, r);
+	if (r.refused)
 		complain("room", "refused %u: %s", r.refused, refusal_words(r.refused));
-		return FAILED;
-	}
-	printf("reserve %zu bytes\n", r.bytes);
-	printf("  %-9s %u.%u.%u\n", "replay", p->version.major, p->version.minor, p->version.patch);
-	for (size_t k = 0; k < NUMBERS; k++)
-		printf("  %-9s %zu%s\n", NAMES[k], *number(p, k), UNITS[k]);
-	return WELL;
+	return r.refused ? FAILED : WELL;
 }

@@ -1,5 +1,5 @@
-/* slp: walks Slippi replays, checks them, lists their events, shows their metadata and frames, finds a frame, writes them again, whole or their
- * final frames only, writes a short match, says how much room to reserve. */
+/* slp: says what Slippi replays are of, walks them, checks them, lists their events, shows their metadata, frames and a picture, finds a frame, writes
+ * them again, whole or their final frames only, writes a short match, says how much room to reserve. */
 #include <errno.h>
 #include <fcntl.h>
 #include <getopt.h>
@@ -14,16 +14,20 @@
 static const char HELP_COMMANDS[] =
 	"slp: Slippi replays, whole or cut\n"
 	"\n"
+	"  slp info FILE..     a line for each game: how long, where, who, how they\n"
+	"                      stood at its end, and who won\n"
 	"  slp walk FILE..     a line for each replay: EVENTS STRAY whole|cut, or\n"
 	"                      refused NUMBER OFFSET; with several files after 'FILE: '\n"
 	"  slp check FILE..    whether each replay is sound, whoever wrote it: sound, or\n"
 	"                      NUMBER: why, and at which byte where there is one; with\n"
-	"                      several files after 'FILE: ', and how many are sound\n"
+	"                      several files after 'FILE: '\n"
 	"  slp events FILE     how many events of each code a replay has, their bytes\n"
-	"  slp meta FILE       the metadata of a replay: its map, an entry a line, maps\n"
+	"  slp meta FILE..     the metadata of a replay: its map, an entry a line, maps\n"
 	"                      inside it further in\n"
 	"  slp table FILE      the frames of a replay as CSV: a line for each frame and\n"
-	"                      player who is in it\n"
+	"                      player who is in it; or another family's rows\n"
+	"  slp picture FILE    a game as a picture, SVG on standard output: percent and\n"
+	"                      stocks over time\n"
 	"  slp index FILE..    writes FILE.spx beside each replay, which says where its\n"
 	"                      frames stand; another file of that name stays\n"
 	"  slp find FILE ID    the last frame of an id: its row, offset and time; by\n"
@@ -41,16 +45,28 @@ static const char HELP_COMMANDS[] =
 	"\n";
 
 static const char HELP_OPTIONS[] =
-	"A FILE or IN of - is standard input, an OUT of - standard output. After --\n"
-	"nothing is an option. An option's value may follow it as a word of its own,\n"
-	"and its name may be shortened as long as it is clear.\n"
+	"A FILE or IN of - is standard input, an OUT of - standard output. Of info,\n"
+	"walk, check and meta, a FILE may be a folder: then all files below it are taken\n"
+	"whose names end in .slp. After -- nothing is an option. An option's value may\n"
+	"follow it as a word of its own, and its name may be shortened as long as it is\n"
+	"clear.\n"
 	"\n"
 	"  --force             an OUT or FILE.spx that is there is replaced, also where\n"
 	"                      OUT is IN; without it, OUT must not exist yet, and - must\n"
 	"                      not be a terminal\n"
-	"  --final             table: the last row of each frame id alone\n"
+	"  --jobs=N            info, walk, check, meta: so many files at a time, up to\n"
+	"                      256; where it is not given, one for each processor\n"
+	"  --json              info, walk, check, events, meta, room: a JSON value for\n"
+	"                      each file, one a line\n"
 	"  --progress=WHEN     a bar on standard error: auto (on a terminal, from 64 MB\n"
 	"                      on), always, never\n"
+	"\n"
+	"What a table has; without them Pre and Post, all columns and rows:\n"
+	"\n"
+	"  --family=NAME       pre, post, start, end, item, fod, whispy or stadium\n"
+	"  --columns=A,B..     these columns alone, in this order\n"
+	"  --final             the last row of each frame id alone\n"
+	"  --comma             decimal commas, and semicolons between columns\n"
 	"\n"
 	"What room is asked for; all but replay and block are 0 where they are not\n"
 	"given:\n"
@@ -70,6 +86,13 @@ static const char HELP_OPTIONS[] =
 	"\n";
 
 static const char HELP_WORDS[] =
+	"A game's time is the match's clock: frames from id 0 on, each id once, 60 a\n"
+	"second. Stocks and percent are those of a player's last frame that no rollback\n"
+	"replaced. The winner is who was placed first, or, where a replay has no\n"
+	"placements, who has more stocks, then less percent; of a match that was not\n"
+	"ended by the game there is none. Of a cut replay all is said that its whole\n"
+	"frames have. Of several files, standard error sums up at the end.\n"
+	"\n"
 	"EVENTS counts the whole events after the table of payload sizes, STRAY the\n"
 	"bytes after the last of them; whole means that all declared bytes are there.\n"
 	"Reasons in words go to standard error. A length of zero was never filled in:\n"
@@ -80,7 +103,7 @@ static const char HELP_WORDS[] =
 	"0 on, as minutes:seconds.\n"
 	"\n"
 	"A table has the frame's id, the port, 1 for a follower or 0, 1 for a frame that\n"
-	"a later one of the same id replaced or 0, and the columns of Pre and Post that\n"
+	"a later one of the same id replaced or 0, and the columns of its families that\n"
 	"the version has; floats are shown as the shortest decimal that reads back as\n"
 	"the same float. Ports are numbered 0 to 3, as in the file: port 0 is the\n"
 	"console's first socket.\n"
@@ -90,7 +113,8 @@ static const char HELP_WORDS[] =
 	"metadata is left out.\n"
 	"\n"
 	"Names and texts are shown on one line: what is no printable UTF-8 as \\xNN, and\n"
-	"a name that has such a byte, or a colon and a space, in quotes.\n"
+	"a name that has such a byte, or a colon and a space, in quotes. In JSON they\n"
+	"are escaped, and read back as they are.\n"
 	"\n"
 	"Exit status: 0 if all went well and every replay is whole, for check sound; 1\n"
 	"if a replay or a plan was refused, a replay cut, or a file could not be read or\n"
@@ -113,7 +137,7 @@ static int print_version(const request *q)
 }
 
 /* What getopt_long gives for an option. From FORCE on they are for some commands alone, each a bit of what a command takes. */
-enum { ASKED_HELP = 'h', ASKED_VERSION = 256, PROGRESS, FORCE, FINAL, ROOM, OPTIONS_END };
+enum { ASKED_HELP = 'h', ASKED_VERSION = 256, PROGRESS, FORCE, FINAL, ROOM, JOBS, JSON, TABLE, OPTIONS_END };
 #define TAKES(option) (1u << ((option) - FORCE))
 
 static const struct option OPTIONS[] = {
@@ -122,6 +146,11 @@ static const struct option OPTIONS[] = {
 	{ "progress", required_argument, NULL, PROGRESS },
 	{ "force", no_argument, NULL, FORCE },
 	{ "final", no_argument, NULL, FINAL },
+	{ "jobs", required_argument, NULL, JOBS },
+	{ "json", no_argument, NULL, JSON },
+	{ "family", required_argument, NULL, TABLE },
+	{ "columns", required_argument, NULL, TABLE },
+	{ "comma", no_argument, NULL, TABLE },
 	{ "replay", required_argument, NULL, ROOM },
 	{ "block", required_argument, NULL, ROOM },
 	{ "slots", required_argument, NULL, ROOM },
@@ -148,17 +177,19 @@ typedef struct {
 enum { ANY = 1 << 30 };
 
 static const command COMMANDS[] = {
-	{ "walk", walk_files, 1, ANY, "needs a file", 0, 0 },
-	{ "check", check_files, 1, ANY, "needs a file", 0, 0 },
-	{ "events", show_events, 1, 1, "needs one file", 0, 0 },
-	{ "meta", show_metadata, 1, 1, "needs one file", 0, 0 },
-	{ "table", show_table, 1, 1, "needs one file", TAKES(FINAL), 0 },
+	{ "info", show_info, 1, ANY, "needs a file", TAKES(JOBS) | TAKES(JSON), 0 },
+	{ "walk", walk_files, 1, ANY, "needs a file", TAKES(JOBS) | TAKES(JSON), 0 },
+	{ "check", check_files, 1, ANY, "needs a file", TAKES(JOBS) | TAKES(JSON), 0 },
+	{ "events", show_events, 1, 1, "needs one file", TAKES(JSON), 0 },
+	{ "meta", show_metadata, 1, ANY, "needs a file", TAKES(JOBS) | TAKES(JSON), 0 },
+	{ "table", show_table, 1, 1, "needs one file", TAKES(TABLE) | TAKES(FINAL), 0 },
+	{ "picture", draw_picture, 1, 1, "needs one file", 0, 0 },
 	{ "index", index_files, 1, ANY, "needs a file", TAKES(FORCE), 0 },
 	{ "find", find_frame, 2, 2, "needs a file and a frame's id", 0, 0 },
 	{ "resave", resave, 2, 2, "needs two files", TAKES(FORCE), 1 },
 	{ "final", write_final_frames, 2, 2, "needs two files", TAKES(FORCE), 1 },
 	{ "demo", write_demo, 1, 1, "needs one file", TAKES(FORCE), 1 },
-	{ "room", show_room, 0, 0, "takes no file", TAKES(ROOM), 0 },
+	{ "room", show_room, 0, 0, "takes no file", TAKES(ROOM) | TAKES(JSON), 0 },
 	{ "help", print_help, 0, 0, "takes no file", 0, 0 },
 	{ "version", print_version, 0, 0, "takes no file", 0, 0 },
 };
@@ -198,6 +229,30 @@ static int parse_progress(const char *when, request *q)
 	return wrong_usage("--progress is auto, always or never, not", when);
 }
 
+/* More than so many files at a time are in each other's way. */
+enum { MOST_JOBS = 256 };
+
+static int parse_jobs(const char *count, request *q)
+{
+	char *end;
+	long n = strtol(count, &end, 10);
+	if (*count < '0' || *count > '9' || *end || n < 1 || n > MOST_JOBS)
+		return wrong_usage("--jobs is a number from 1 to 256, not", count);
+	q->jobs = (int)n;
+	return WELL;
+}
+
+static int take_table(const char *name, const char *value, request *q)
+{
+	if (strcmp(name, "family") == 0)
+		q->family = value;
+	else if (strcmp(name, "columns") == 0)
+		q->columns = value;
+	else
+		q->comma = 1;
+	return WELL;
+}
+
 static int parse_room(const char *name, const char *value, request *q)
 {
 	if (room_option(name, value, &q->room) == WELL)
@@ -220,6 +275,9 @@ static int take_option(int option, const char *name, arguments *a)
 	case FORCE: a->q.force = 1; return WELL;
 	case FINAL: a->q.final = 1; return WELL;
 	case ROOM: return parse_room(name, optarg, &a->q);
+	case JOBS: return parse_jobs(optarg, &a->q);
+	case JSON: a->q.json = 1; return WELL;
+	case TABLE: return take_table(name, optarg, &a->q);
 	default: return opterr ? try_help() : wrong_usage("an option that is not known, or not as it should be", NULL);
 	}
 }
@@ -287,6 +345,9 @@ static int run(arguments *a)
 			return wrong_for(c, "has no option --", a->given[option - FORCE]);
 	if (q->count < c->least || q->count > c->most)
 		return wrong_for(c, c->files, "");
+	const char *which, *wrong = table_wish_wrong(q, &which);
+	if (wrong)
+		return wrong_usage(wrong, which);
 	if (c->saves && savable(q->files[q->count - 1], q->force) != WELL)
 		return FAILED;
 	return c->run(q);

@@ -1,4 +1,5 @@
-/* slp table: the frames of a replay as CSV, a line for each frame and player who is in it; with --final the last row of each id alone. */
+/* slp table: the records of a replay as CSV. Of a player's families a line for each frame and player who is in it, of a frame's own a line for each
+ * frame, of the others a line for each row; with --final those of the last row of each frame id alone. */
 #include <stdio.h>
 #include <stdlib.h>
 #include <string.h>
@@ -7,13 +8,17 @@
 #include "shortest.h"
 #include "tool.h"
 
-/* How a cell is shown: as a number, as one with a sign in its lowest byte, or as a float. */
-typedef enum { WHOLE, SIGNED, REAL } kind;
+/* What a column has: something of the line itself; or a cell, as a number, as one with a sign, of a byte or of all four, or as a float. */
+typedef enum { ID, PORT, FOLLOWER, REPLACED, WHOLE, SIGNED, LONG_SIGNED, REAL } kind;
 
 typedef struct {
 	const char *name;
 	kind as;
 } column;
+
+/* What every line begins with; the two in the middle are a player's. */
+static const column OWN[] = { { "id", ID }, { "port", PORT }, { "follower", FOLLOWER }, { "replaced", REPLACED } };
+enum { OWN_COLUMNS = sizeof OWN / sizeof *OWN };
 
 static const column PRE[SLP_PRE_COLUMNS] = {
 	[SLP_PRE_RANDOM_SEED] = { "pre_random_seed", WHOLE },
@@ -72,79 +77,360 @@ static const column POST[SLP_POST_COLUMNS] = {
 	[SLP_POST_INSTANCE_ID] = { "post_instance_id", WHOLE },
 };
 
-/* A replay, how many columns its version has, the mask of its frames which a later one of the same id replaced, NULL where there is none, and
- * whether they are passed over. */
+static const column FRAME_START[SLP_FRAME_START_COLUMNS] = {
+	[SLP_FRAME_START_RANDOM_SEED] = { "frame_start_random_seed", WHOLE },
+	[SLP_FRAME_START_SCENE_FRAME_COUNTER] = { "frame_start_scene_frame_counter", WHOLE },
+};
+
+static const column FRAME_END[SLP_FRAME_END_COLUMNS] = {
+	[SLP_FRAME_END_LATEST_FINALIZED_FRAME] = { "frame_end_latest_finalized_frame", LONG_SIGNED },
+};
+
+static const column ITEM[SLP_ITEM_COLUMNS] = {
+	[SLP_ITEM_TYPE] = { "item_type", WHOLE },
+	[SLP_ITEM_STATE] = { "item_state", WHOLE },
+	[SLP_ITEM_DIRECTION] = { "item_direction", REAL },
+	[SLP_ITEM_VELOCITY_X] = { "item_velocity_x", REAL },
+	[SLP_ITEM_VELOCITY_Y] = { "item_velocity_y", REAL },
+	[SLP_ITEM_POSITION_X] = { "item_position_x", REAL },
+	[SLP_ITEM_POSITION_Y] = { "item_position_y", REAL },
+	[SLP_ITEM_DAMAGE] = { "item_damage", WHOLE },
+	[SLP_ITEM_TIMER] = { "item_timer", REAL },
+	[SLP_ITEM_ID] = { "item_id", WHOLE },
+	[SLP_ITEM_MISC_0] = { "item_misc_0", WHOLE },
+	[SLP_ITEM_MISC_1] = { "item_misc_1", WHOLE },
+	[SLP_ITEM_MISC_2] = { "item_misc_2", WHOLE },
+	[SLP_ITEM_MISC_3] = { "item_misc_3", WHOLE },
+	[SLP_ITEM_OWNER] = { "item_owner", SIGNED },
+	[SLP_ITEM_INSTANCE_ID] = { "item_instance_id", WHOLE },
+};
+
+static const column FOD_PLATFORM[SLP_FOD_PLATFORM_COLUMNS] = {
+	[SLP_FOD_PLATFORM_PLATFORM] = { "fod_platform_platform", WHOLE },
+	[SLP_FOD_PLATFORM_HEIGHT] = { "fod_platform_height", REAL },
+};
+
+static const column DREAMLAND_WHISPY[SLP_DREAMLAND_WHISPY_COLUMNS] = {
+	[SLP_DREAMLAND_WHISPY_DIRECTION] = { "dreamland_whispy_direction", WHOLE },
+};
+
+static const column STADIUM_TRANSFORMATION[SLP_STADIUM_TRANSFORMATION_COLUMNS] = {
+	[SLP_STADIUM_TRANSFORMATION_EVENT] = { "stadium_transformation_event", WHOLE },
+	[SLP_STADIUM_TRANSFORMATION_TYPE] = { "stadium_transformation_type", WHOLE },
+};
+
+/* What a table has a line for. */
+typedef enum { A_PLAYER, A_FRAME, A_ROW } unit;
+
+/* A table that can be asked for: its families by their numbers, one or two. */
+typedef struct {
+	const char *name;
+	unit unit;
+	uint8_t families[2];
+	int count;
+} choice;
+
+static const choice CHOICES[] = {
+	{ "", A_PLAYER, { SLP_FAMILY_PRE, SLP_FAMILY_POST }, 2 },
+	{ "pre", A_PLAYER, { SLP_FAMILY_PRE }, 1 },
+	{ "post", A_PLAYER, { SLP_FAMILY_POST }, 1 },
+	{ "start", A_FRAME, { SLP_FAMILY_FRAME_START }, 1 },
+	{ "end", A_FRAME, { SLP_FAMILY_FRAME_END }, 1 },
+	{ "item", A_ROW, { SLP_FAMILY_ITEM }, 1 },
+	{ "fod", A_ROW, { SLP_FAMILY_FOD_PLATFORM }, 1 },
+	{ "whispy", A_ROW, { SLP_FAMILY_DREAMLAND_WHISPY }, 1 },
+	{ "stadium", A_ROW, { SLP_FAMILY_STADIUM_TRANSFORMATION }, 1 },
+};
+
+/* The names of a family's columns, and how many the newest version has. */
+static const struct {
+	const column *columns;
+	size_t count;
+} FAMILIES[] = {
+	[SLP_FAMILY_FRAME_START] = { FRAME_START, SLP_FRAME_START_COLUMNS },
+	[SLP_FAMILY_PRE] = { PRE, SLP_PRE_COLUMNS },
+	[SLP_FAMILY_POST] = { POST, SLP_POST_COLUMNS },
+	[SLP_FAMILY_FRAME_END] = { FRAME_END, SLP_FRAME_END_COLUMNS },
+	[SLP_FAMILY_ITEM] = { ITEM, SLP_ITEM_COLUMNS },
+	[SLP_FAMILY_FOD_PLATFORM] = { FOD_PLATFORM, SLP_FOD_PLATFORM_COLUMNS },
+	[SLP_FAMILY_DREAMLAND_WHISPY] = { DREAMLAND_WHISPY, SLP_DREAMLAND_WHISPY_COLUMNS },
+	[SLP_FAMILY_STADIUM_TRANSFORMATION] = { STADIUM_TRANSFORMATION, SLP_STADIUM_TRANSFORMATION_COLUMNS },
+};
+
+/* More columns than any table has, and than can be asked for. */
+enum { MOST_COLUMNS = 128 };
+
+/* A column that is shown: its cells, and how far it is from a slot's to the next one's. */
+typedef struct {
+	const char *name;
+	kind as;
+	const uint32_t *cells;
+	size_t stride;
+} shown;
+
+/* A replay as a table; the mask of its frames which a later one of the same id replaced, NULL where there is none, and whether they are passed over;
+ * and its columns. */
 typedef struct {
 	replay replay;
-	size_t pre, post;
 	uint8_t *replaced;
 	int final;
+	const choice *choice;
+	int comma;
+	shown columns[MOST_COLUMNS];
+	size_t count;
 } table;
 
-static void print_cell(kind as, uint32_t cell)
+/* What a line is of: `at` is the frame or the row whose cells it has. */
+typedef struct {
+	size_t frame, at, slot;
+	unsigned port;
+	int follower;
+} line;
+
+/* ---- a line */
+
+static void put_real(uint32_t cell, int comma)
 {
 	char text[SHORTEST_ROOM];
-	putchar(',');
-	if (as == REAL)
-		fwrite(text, 1, shortest(cell, text), stdout);
-	else if (as == SIGNED)
+	size_t len = shortest(cell, text);
+	char *point = comma ? memchr(text, '.', len) : NULL;
+	if (point)
+		*point = ',';
+	fwrite(text, 1, len, stdout);
+}
+
+static void put_cell(const table *t, const shown *c, const line *l)
+{
+	uint32_t cell = c->cells[l->slot * c->stride + l->at];
+	if (c->as == REAL)
+		put_real(cell, t->comma);
+	else if (c->as == SIGNED)
 		printf("%d", (int)(int8_t)(uint8_t)cell);
+	else if (c->as == LONG_SIGNED)
+		printf("%ld", (long)(int32_t)cell);
 	else
 		printf("%lu", (unsigned long)cell);
 }
 
-static void print_names(const column *columns, size_t n)
+static void put_column(const table *t, const shown *c, const line *l)
 {
-	for (size_t c = 0; c < n; c++)
-		printf(",%s", columns[c].name);
+	switch (c->as) {
+	case ID: printf("%ld", (long)(int32_t)t->replay.space.ids.p[l->frame]); break;
+	case PORT: printf("%u", l->port); break;
+	case FOLLOWER: printf("%d", l->follower); break;
+	case REPLACED:
+		if (t->replaced)
+			putchar('0' + t->replaced[l->frame]);
+		break;
+	default: put_cell(t, c, l);
+	}
 }
 
-/* A row of a slot's columns, each of which has a cell a frame. */
-static void print_cells(const column *columns, size_t n, const uint32_t *cells, size_t frames)
+static void put_line(const table *t, const line *l)
 {
-	for (size_t c = 0; c < n; c++)
-		print_cell(columns[c].as, cells[c * frames]);
-}
-
-/* A line, where the slot's player is in the frame. */
-static void print_player(const table *t, size_t slot, uint8_t port, int follower, size_t i)
-{
-	const replay *r = &t->replay;
-	size_t frames = r->opened.game.frames.counts.frames;
-	const uint8_t *bits = r->space.presence.p + slot * ((frames + 7) / 8);
-	if (!(bits[i / 8] >> i % 8 & 1))
-		return;
-	printf("%ld,%u,%d,", (long)(int32_t)r->space.ids.p[i], port, follower);
-	if (t->replaced)
-		putchar('0' + t->replaced[i]);
-	print_cells(PRE, t->pre, r->space.pres.p + slot * t->pre * frames + i, frames);
-	print_cells(POST, t->post, r->space.posts.p + slot * t->post * frames + i, frames);
+	for (size_t k = 0; k < t->count; k++) {
+		if (k)
+			putchar(t->comma ? ';' : ',');
+		put_column(t, &t->columns[k], l);
+	}
 	putchar('\n');
 }
 
-static void print_frame(const table *t, size_t i)
+static void put_names(const table *t)
+{
+	for (size_t k = 0; k < t->count; k++)
+		printf("%s%s", k == 0 ? "" : t->comma ? ";" : ",", t->columns[k].name);
+	putchar('\n');
+}
+
+/* ---- the lines of a frame */
+
+static void put_player_line(const table *t, size_t frame, size_t slot, unsigned port, int follower)
+{
+	line l = { frame, frame, slot, port, follower };
+	if (is_present(&t->replay, slot, frame))
+		put_line(t, &l);
+}
+
+static void put_players(const table *t, size_t frame)
 {
 	const slp_frames *f = &t->replay.opened.game.frames;
 	size_t slot = 0;
 	for (size_t p = 0; p < f->port_count; p++) {
-		print_player(t, slot++, f->ports[p].port, 0, i);
+		put_player_line(t, frame, slot++, f->ports[p].port, 0);
 		if (f->ports[p].follower)
-			print_player(t, slot++, f->ports[p].port, 1, i);
+			put_player_line(t, frame, slot++, f->ports[p].port, 1);
 	}
 }
 
+static const uint32_t *offsets_of(const table *t)
+{
+	const slp_space *s = &t->replay.space;
+	switch (t->choice->families[0]) {
+	case SLP_FAMILY_ITEM: return s->item_offsets.p;
+	case SLP_FAMILY_FOD_PLATFORM: return s->fod_offsets.p;
+	case SLP_FAMILY_DREAMLAND_WHISPY: return s->whispy_offsets.p;
+	default: return s->stadium_offsets.p;
+	}
+}
+
+static void put_rows(const table *t, size_t frame)
+{
+	const uint32_t *offsets = offsets_of(t);
+	for (size_t row = offsets[frame]; row < offsets[frame + 1]; row++) {
+		line l = { .frame = frame, .at = row };
+		put_line(t, &l);
+	}
+}
+
+static void put_frame(const table *t, size_t frame)
+{
+	line l = { .frame = frame, .at = frame };
+	if (t->choice->unit == A_PLAYER)
+		put_players(t, frame);
+	else if (t->choice->unit == A_ROW)
+		put_rows(t, frame);
+	else
+		put_line(t, &l);
+}
+
 /* The bar goes by the file's bytes, as if each frame had as many. */
-static void print_frames(const table *t)
+static void put_frames(const table *t)
 {
 	size_t frames = t->replay.opened.game.frames.counts.frames, done = 0;
 	for (size_t i = 0; i < frames && !ferror(stdout); i++) {
 		if (!t->final || !t->replaced[i])
-			print_frame(t, i);
+			put_frame(t, i);
 		size_t now = (size_t)((uint64_t)t->replay.file.len * (i + 1) / frames);
 		progress_add(now - done);
 		done = now;
 	}
 }
+
+/* ---- which columns */
+
+static slp_cell_space store_of(const slp_space *s, uint8_t family)
+{
+	const slp_cell_space stores[] = {
+		[SLP_FAMILY_FRAME_START] = s->starts, [SLP_FAMILY_PRE] = s->pres, [SLP_FAMILY_POST] = s->posts, [SLP_FAMILY_FRAME_END] = s->ends,
+		[SLP_FAMILY_ITEM] = s->items, [SLP_FAMILY_FOD_PLATFORM] = s->fods, [SLP_FAMILY_DREAMLAND_WHISPY] = s->whispys,
+		[SLP_FAMILY_STADIUM_TRANSFORMATION] = s->stadiums,
+	};
+	return stores[family];
+}
+
+static size_t rows_of(const slp_counts *n, uint8_t family)
+{
+	switch (family) {
+	case SLP_FAMILY_ITEM: return n->items;
+	case SLP_FAMILY_FOD_PLATFORM: return n->fods;
+	case SLP_FAMILY_DREAMLAND_WHISPY: return n->whispys;
+	case SLP_FAMILY_STADIUM_TRANSFORMATION: return n->stadiums;
+	default: return n->frames;
+	}
+}
+
+static void add_family(table *t, uint8_t family)
+{
+	const slp_frames *f = &t->replay.opened.game.frames;
+	size_t columns = slp_columns(f->version, family), rows = rows_of(&f->counts, family);
+	const uint32_t *cells = store_of(&t->replay.space, family).p;
+	for (size_t c = 0; c < columns; c++) {
+		const column *named = &FAMILIES[family].columns[c];
+		t->columns[t->count++] = (shown){ named->name, named->as, cells + c * rows, columns * rows };
+	}
+}
+
+/* Whether a table's lines have a column of their own. */
+static int begins_with(const choice *c, const column *own)
+{
+	return c->unit == A_PLAYER || own->as == ID || own->as == REPLACED;
+}
+
+static void add_all(table *t)
+{
+	for (int k = 0; k < OWN_COLUMNS; k++)
+		if (begins_with(t->choice, &OWN[k]))
+			t->columns[t->count++] = (shown){ OWN[k].name, OWN[k].as, NULL, 0 };
+	for (int k = 0; k < t->choice->count; k++)
+		add_family(t, t->choice->families[k]);
+}
+
+/* The next name of a list with commas between, which is moved on; NULL behind the last. */
+static const char *next_name(const char **list, size_t *len)
+{
+	const char *name = *list;
+	if (!name)
+		return NULL;
+	*len = strcspn(name, ",");
+	*list = name[*len] ? name + *len + 1 : NULL;
+	return name;
+}
+
+static int is_called(const char *full, const char *name, size_t len)
+{
+	return strlen(full) == len && memcmp(full, name, len) == 0;
+}
+
+/* The columns that were asked for alone, in their order. */
+static int pick_columns(const char *file, table *t, const char *list)
+{
+	shown all[MOST_COLUMNS];
+	size_t had = t->count, len;
+	memcpy(all, t->columns, sizeof all);
+	t->count = 0;
+	for (const char *name; (name = next_name(&list, &len)) != NULL;) {
+		size_t k = 0;
+		while (k < had && !is_called(all[k].name, name, len))
+			k++;
+		if (k == had) {
+			complain(file, "its version has no column %.*s", (int)len, name);
+			return FAILED;
+		}
+		t->columns[t->count++] = all[k];
+	}
+	return WELL;
+}
+
+/* ---- what is asked for, before a file is read */
+
+static const choice *find_choice(const char *family)
+{
+	for (size_t k = 0; k < sizeof CHOICES / sizeof *CHOICES; k++)
+		if (strcmp(CHOICES[k].name, family ? family : "") == 0 && (!family || *family))
+			return &CHOICES[k];
+	return NULL;
+}
+
+/* Whether a column is in a table, of some version. */
+static int has_column(const choice *c, const char *name, size_t len)
+{
+	for (int k = 0; k < OWN_COLUMNS; k++)
+		if (begins_with(c, &OWN[k]) && is_called(OWN[k].name, name, len))
+			return 1;
+	for (int f = 0; f < c->count; f++)
+		for (size_t k = 0; k < FAMILIES[c->families[f]].count; k++)
+			if (is_called(FAMILIES[c->families[f]].columns[k].name, name, len))
+				return 1;
+	return 0;
+}
+
+const char *table_wish_wrong(const request *q, const char **which)
+{
+	const choice *c = find_choice(q->family);
+	const char *list = q->columns;
+	size_t len, count = 0;
+	*which = q->family;
+	if (!c)
+		return "--family is pre, post, start, end, item, fod, whispy or stadium, not";
+	*which = q->columns;
+	for (const char *name; (name = next_name(&list, &len)) != NULL; count++)
+		if (!has_column(c, name, len))
+			return "--columns: the table has not all of";
+	return count > MOST_COLUMNS ? "--columns: too many in" : NULL;
+}
+
+/* ---- the table */
 
 /* A bar among the lines of the table would be in their way. */
 static int bar_beside(int progress)
@@ -152,54 +438,49 @@ static int bar_beside(int progress)
 	return progress == PROGRESS_AUTO && isatty(STDOUT_FILENO) ? PROGRESS_NEVER : progress;
 }
 
-/* The mask. Of ids that no game has there is none: they are out of slp_rollbacks's range. The final frames alone are refused then. */
-static int find_replaced(const char *name, table *t)
+/* The mask, or words: where an id is none of a game, it is left open, but the final frames alone are refused. */
+static int mask_frames(const char *name, table *t)
 {
-	const replay *r = &t->replay;
-	size_t frames = r->opened.game.frames.counts.frames, marks = SLP_LAST_FRAME_ID - SLP_FIRST_FRAME_ID + 1;
-	uint8_t *scratch = malloc(marks);
-	t->replaced = calloc(frames + 1, 1);
-	if (!scratch || !t->replaced) {
-		free(scratch);
-		complain(name, "no memory");
-		return FAILED;
-	}
-	unsigned refused = slp_rollbacks(r->space.ids.p, frames, SLP_EXCEPT_LAST, t->replaced, frames, scratch, marks);
-	free(scratch);
+	unsigned refused = find_replaced(&t->replay, &t->replaced);
 	if (refused && t->final) {
 		complain(name, "refused %u: %s", refused, refusal_words(refused));
 		return FAILED;
 	}
-	if (refused) {
+	if (refused)
 		complain(name, "which frames were replaced is left open: %s", refusal_words(refused));
-		free(t->replaced);
-		t->replaced = NULL;
-	}
-	return WELL;
+	else if (!t->replaced)
+		complain(name, "no memory");
+	return refused || t->replaced ? WELL : FAILED;
 }
 
-static void print_table(const table *t, int progress)
+static int choose_columns(const char *name, table *t, const request *q)
 {
-	fputs("id,port,follower,replaced", stdout);
-	print_names(PRE, t->pre);
-	print_names(POST, t->post);
-	putchar('\n');
-	progress_begin(bar_beside(progress), "table", t->replay.file.len);
-	print_frames(t);
-	progress_clear();
+	slp_version v = t->replay.opened.game.frames.version;
+	t->choice = find_choice(q->family);
+	t->comma = q->comma;
+	if (slp_columns(v, t->choice->families[0]) == 0) {
+		complain(name, "version %u.%u.%u has no columns of the family %s", v.major, v.minor, v.patch, t->choice->name);
+		return FAILED;
+	}
+	add_all(t);
+	return q->columns ? pick_columns(name, t, q->columns) : WELL;
 }
 
 int show_table(const request *q)
 {
 	table t = { .final = q->final };
+	const char *name = input_name(q->files[0]);
 	if (open_replay(q->files[0], q->progress, &t.replay) != WELL)
 		return FAILED;
-	slp_version v = t.replay.opened.game.frames.version;
-	t.pre = slp_columns(v, SLP_FAMILY_PRE);
-	t.post = slp_columns(v, SLP_FAMILY_POST);
-	int status = find_replaced(input_name(q->files[0]), &t);
+	int status = choose_columns(name, &t, q);
 	if (status == WELL)
-		print_table(&t, q->progress);
+		status = mask_frames(name, &t);
+	if (status == WELL) {
+		put_names(&t);
+		progress_begin(bar_beside(q->progress), "table", t.replay.file.len);
+		put_frames(&t);
+		progress_clear();
+	}
 	free(t.replaced);
 	close_replay(&t.replay);
 	return status;

@@ -68,6 +68,46 @@ void put_text(FILE *to, const uint8_t *text, size_t len)
 	fputc('"', to);
 }
 
+void put_xml_text(FILE *to, const uint8_t *text, size_t len)
+{
+	for (size_t at = 0; at < len;) {
+		size_t n = shown(text + at, len - at);
+		if (n == 0 && text[at] != '"' && text[at] != '\\')
+			fprintf(to, "\\x%02x", text[at]);
+		else if (strchr("&<>\"", text[at]))
+			fprintf(to, "&#%d;", text[at]);
+		else
+			fwrite(text + at, 1, n ? n : 1, to);
+		at += n ? n : 1;
+	}
+}
+
+static void put_escape(FILE *to, uint32_t code)
+{
+	if (code == '"' || code == '\\')
+		fprintf(to, "\\%c", (char)code);
+	else if (code < 0x10000)
+		fprintf(to, "\\u%04x", (unsigned)code);
+	else
+		fprintf(to, "\\u%04x\\u%04x", (unsigned)(0xd7c0 + (code >> 10)), (unsigned)(0xdc00 | (code & 0x3ff)));
+}
+
+void put_json_text(FILE *to, const uint8_t *text, size_t len)
+{
+	fputc('"', to);
+	for (size_t at = 0; at < len;) {
+		uint32_t code = 0xfffd;
+		size_t n = decode(text + at, len - at, &code);
+		int broken = n == 0 || code > 0x10ffff || (code >= 0xd800 && code < 0xe000);
+		if (broken || hidden(code))
+			put_escape(to, broken ? 0xfffd : code);
+		else
+			fwrite(text + at, 1, n, to);
+		at += broken ? 1 : n;
+	}
+	fputc('"', to);
+}
+
 void put_name(FILE *to, const char *name)
 {
 	const uint8_t *text = (const uint8_t *)name;

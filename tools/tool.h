@@ -21,12 +21,48 @@ typedef struct {
 	int progress;   /* PROGRESS_.. */
 	int force;      /* an OUT that is there may be replaced */
 	int final;      /* the last row of each frame id alone */
+	int json;       /* a JSON value a file */
+	int jobs;       /* how many files at a time; 0 where that is left to the tool */
+	int several;    /* there may be more than one file: what is said of one begins with its name */
+	const char *family, *columns;   /* of a table, or NULL */
+	int comma;                      /* decimal commas, and semicolons between */
 	room_wish room;
 } request;
 
 /* ---- slp.c: what is wrong with the command line, and with which word of it, or NULL; WRONG_USAGE */
 
 int wrong_usage(const char *what, const char *which);
+
+/* How a file is, for the line that sums up many; only the first two are well. check says that it is sound or not. */
+typedef enum { IS_WHOLE, IS_SOUND, IS_CUT, IS_REFUSED, IS_UNSOUND, IS_BARE, IS_UNREAD, OUTCOMES } outcome;
+
+/* ---- streams.c: where the lines of a command go, and its messages */
+
+FILE *out(void);
+FILE *err(void);
+/* For this thread, or NULL for the standard ones. */
+void say_to(FILE *lines, FILE *messages);
+
+/* ---- files.c */
+
+typedef struct {
+	char **paths;
+	int count, room;
+	int several;   /* a folder was asked for, or more than one file */
+	int failed;    /* a folder could not be read, or has no replay: that was said */
+} file_list;
+
+/* The files of a request, of folders all *.slp below them by their names' order. WELL, or FAILED after words on standard error. */
+int list_files(const request *q, file_list *l);
+void free_files(file_list *l);
+
+/* ---- many.c */
+
+/* What a command does with a file. It may be done for several at a time: it prints to out() and by complain. */
+typedef outcome (*one_file)(const request *q, const char *path);
+
+/* Does it for all files of a request: the exit status. */
+int each_file(const request *q, one_file does);
 
 /* ---- text.c: what others wrote, on one line and never as commands to a terminal */
 
@@ -37,6 +73,39 @@ void put_text(FILE *to, const uint8_t *text, size_t len);
 /* A file's name: as it is where it is plain and could not be taken for a name and what is said of it, else as a text. */
 void put_name(FILE *to, const char *name);
 
+/* A text as JSON has it: what is not shown is escaped, and reads back as it was; bytes that are no UTF-8 are U+FFFD. */
+void put_json_text(FILE *to, const uint8_t *text, size_t len);
+
+/* A text as XML has it; what is not shown as \xNN. */
+void put_xml_text(FILE *to, const uint8_t *text, size_t len);
+
+/* ---- json.c */
+
+/* A value that is being written. Objects and lists in it are begun with a bracket and ended with the other. */
+typedef struct {
+	FILE *to;
+	int more;   /* a comma comes first */
+} json;
+
+/* Values by their names in an object; in a list, and behind json_name, the name is NULL. */
+void json_begin(json *j, const char *name, char bracket);
+void json_end(json *j, char bracket);
+void json_text(json *j, const char *name, const uint8_t *text, size_t len);
+void json_words(json *j, const char *name, const char *words);
+void json_number(json *j, const char *name, int64_t n);
+void json_count(json *j, const char *name, uint64_t n);
+void json_real(json *j, const char *name, uint32_t bits);   /* null where it is no number */
+void json_mark(json *j, const char *name, int yes);
+void json_null(json *j, const char *name);
+/* A name that others wrote. */
+void json_name(json *j, const uint8_t *name, size_t len);
+/* A file's value begins with its name, and ends a line. */
+json json_file(const char *path);
+void json_refused(json *j, unsigned number, size_t offset);
+/* The same in other words. */
+void json_refused_for(json *j, unsigned number, size_t offset, const char *words);
+void json_line(json *j);
+
 /* ---- words.c: messages; names in them are shown by put_name */
 
 /* Why a call was refused, in words. */
@@ -46,18 +115,21 @@ const char *event_name(uint8_t code);
 /* What to call a file in messages: - is standard input or output. */
 const char *input_name(const char *path);
 const char *output_name(const char *path);
-/* "NAME: " on standard output, before what is said of one of several files. */
+/* "NAME: " on out(), before what is said of one of several files. */
 void print_prefix(const char *name);
 /* "wrote NAME: LEN bytes" without a line's end, on standard output, or on standard error where the file itself is there; where the rest goes. */
 FILE *say_wrote(const char *path, size_t len);
-/* "slp: NAME: REASON" on standard error, after all that was printed before. */
+/* "slp: NAME: REASON" on err(), after all that was printed before. */
 void complain(const char *name, const char *format, ...) __attribute__((format(printf, 2, 3)));
+/* A file that cannot be read: as a message, and as a JSON value where that is asked for. */
+outcome unread(const request *q, const char *path, int wrong);
 /* A reader's refusal. */
 void complain_refused(const char *name, unsigned number, size_t offset);
 /* A replay that is cut, and how many of its event data's bytes there are. */
 void complain_cut(const char *name, const uint8_t *file, size_t len);
 /* The declared length of event data. */
 size_t declared_length(const uint8_t *file);
+void declare_length(uint8_t *file, size_t len);
 /* Whether it was never filled in; and if so, that in words. */
 int unfilled(const uint8_t *file, size_t len);
 void complain_unfilled(const char *name, const uint8_t *file, size_t len);
@@ -109,6 +181,14 @@ typedef struct {
 /* WELL, or FAILED after words on standard error. */
 int open_replay(const char *path, int progress, replay *r);
 void close_replay(replay *r);
+/* The same, without words and without a bar; of a replay that is cut, the front of it that can be read, as if it ended there: where not even its start
+ * can be, IS_CUT with `cells` NULL. IS_REFUSED with r->opened.refused and its offset; IS_UNREAD with an errno. Closed in any case. */
+outcome open_part(const char *path, replay *r, int *wrong);
+/* In words, after what was printed of it: that it was refused, or is cut. */
+void complain_part(const char *name, const replay *r, outcome how);
+/* The mask of the frames that a later one of the same id replaced, to be freed. NULL where there is no memory, and where the number that is given
+ * refuses it: ids that no game has are out of slp_rollbacks's range. */
+unsigned find_replaced(const replay *r, uint8_t **mask);
 /* Why a replay is refused: 14 to 17 have a place. Of one that is cut, how much of it there is. It was loaded with LONGEST_TAIL + 1 bytes more. */
 void complain_unread(const char *name, const content *c, unsigned number, size_t offset);
 
@@ -130,6 +210,62 @@ size_t room_for(const replay *r);
 /* Saves the file that was written, or says why it was refused: WELL, or FAILED after words on standard error. */
 int save_written(const request *q, slp_written w, const uint8_t *file);
 
+/* ---- names.c: NULL for a number that has no name */
+
+const char *character_name(unsigned number);
+const char *stage_name(unsigned number);
+const char *end_name(unsigned number);
+
+/* ---- japanese.c */
+
+/* A text in UTF-8; from the game's own, no longer than these are. */
+typedef struct {
+	uint8_t bytes[256];
+	size_t len;
+} name_text;
+
+/* A text of the game in UTF-8; the bytes as they are where they are no Shift-JIS. */
+name_text from_japanese(const uint8_t *text, size_t len);
+
+/* ---- lookup.c */
+
+/* The text at a path of keys in a replay's metadata, which stands in its file; none where there is no such text. */
+slp_bytes metadata_text(const replay *r, const char *const *keys, int depth);
+
+/* ---- game.c: what info and picture say of a game */
+
+enum { PLAYERS = 4, NO_SLOT = 8 };
+
+typedef struct {
+	const slp_seat *seat;
+	unsigned port;
+	name_text name;   /* the netplay name, or the tag, or what the metadata has; may be empty */
+	size_t slot;      /* its leader's slot, or NO_SLOT */
+	int seen;         /* it has a last row, with: */
+	unsigned stocks;
+	float percent;
+	int won;
+} player;
+
+/* Players stand in the order of ports, in teams by team. `replaced` is find_replaced's mask. */
+typedef struct {
+	const replay *replay;
+	uint8_t *replaced;
+	size_t replaced_count;
+	int64_t clock;   /* frames from id 0 on, each id once; -1 where the ids are none of a game */
+	player players[PLAYERS];
+	int count;
+} game;
+
+/* WELL, with memory to be freed by forget; or FAILED without memory. */
+int describe(const replay *r, game *g);
+void forget(game *g);
+int same_team(const player *a, const player *b);
+/* Whether a player is in a frame. */
+int is_present(const replay *r, size_t slot, size_t frame);
+/* A player's name as it is shown: without quotes where it is plain and cannot be taken for what stands round it. */
+void put_player(FILE *to, const player *p);
+
 /* ---- progress.c: a bar on standard error */
 
 enum { PROGRESS_AUTO, PROGRESS_ALWAYS, PROGRESS_NEVER };
@@ -139,19 +275,28 @@ void progress_begin(int when, const char *what, uint64_t total);
 void progress_add(uint64_t done);
 /* Takes the bar away, before a line is printed and at the end. */
 void progress_clear(void);
+/* The same, and it stays away until it is released: while other threads move it. */
+void progress_hold(void);
+void progress_release(void);
 
 /* ---- the commands: each gives the exit status */
 
+int show_info(const request *q);
 int walk_files(const request *q);
 int check_files(const request *q);
 int show_events(const request *q);
 int show_metadata(const request *q);
 int show_table(const request *q);
+int draw_picture(const request *q);
 int index_files(const request *q);
 int find_frame(const request *q);
 int resave(const request *q);
 int write_final_frames(const request *q);
 int write_demo(const request *q);
+
+/* ---- table.c: what is wrong with the table that is asked for, and with which word; NULL where nothing is */
+
+const char *table_wish_wrong(const request *q, const char **which);
 
 /* ---- room.c */
 

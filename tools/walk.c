@@ -11,21 +11,35 @@ static void print_line(const char *prefix, slp_walked w)
 	if (prefix)
 		print_prefix(prefix);
 	if (w.refused)
-		printf("refused %u %zu\n", w.refused, w.offset);
+		fprintf(out(), "refused %u %zu\n", w.refused, w.offset);
 	else
-		printf("%zu %zu %s\n", w.events, w.stray, w.whole ? "whole" : "cut");
+		fprintf(out(), "%zu %zu %s\n", w.events, w.stray, w.whole ? "whole" : "cut");
 }
 
-static int walk_file(const char *path, const char *prefix)
+static void print_json(const char *path, slp_walked w)
+{
+	json j = json_file(path);
+	if (w.refused) {
+		json_refused(&j, w.refused, w.offset);
+	} else {
+		json_count(&j, "events", w.events);
+		json_count(&j, "stray", w.stray);
+		json_mark(&j, "whole", w.whole);
+	}
+	json_line(&j);
+}
+
+static outcome walk_file(const request *q, const char *path)
 {
 	content c;
 	int wrong = load_more(path, LONGEST_TAIL + 1, &c);
-	if (wrong) {
-		complain(input_name(path), "%s", strerror(wrong));
-		return FAILED;
-	}
+	if (wrong)
+		return unread(q, path, wrong);
 	slp_walked w = slp_walk(c.bytes, c.len);
-	print_line(prefix, w);
+	if (q->json)
+		print_json(path, w);
+	else
+		print_line(q->several ? path : NULL, w);
 	if (w.refused != SLP_NOT_A_REPLAY)
 		complain_unfilled(input_name(path), c.bytes, c.len);
 	if (w.refused) {
@@ -35,17 +49,11 @@ static int walk_file(const char *path, const char *prefix)
 		complain_cut(input_name(path), c.bytes, c.len);
 	}
 	free(c.bytes);
-	return w.refused || !w.whole ? FAILED : WELL;
+	return w.refused ? IS_REFUSED : w.whole ? IS_WHOLE : IS_CUT;
 }
 
 /* Reading takes the time; a walk of what is in memory is quick. So the bar goes by what was read, and slp_walk walks a file at once. */
 int walk_files(const request *q)
 {
-	int status = WELL;
-	progress_begin(q->progress, "reading", total_size(q->files, q->count));
-	for (int i = 0; i < q->count; i++)
-		if (walk_file(q->files[i], q->count > 1 ? q->files[i] : NULL) != WELL)
-			status = FAILED;
-	progress_clear();
-	return status;
+	return each_file(q, walk_file);
 }

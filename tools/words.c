@@ -72,8 +72,8 @@ const char *output_name(const char *path)
 
 void print_prefix(const char *name)
 {
-	put_name(stdout, name);
-	fputs(": ", stdout);
+	put_name(out(), name);
+	fputs(": ", out());
 }
 
 FILE *say_wrote(const char *path, size_t len)
@@ -89,14 +89,25 @@ void complain(const char *name, const char *format, ...)
 {
 	va_list rest;
 	progress_clear();
-	fflush(stdout);
-	fputs("slp: ", stderr);
-	put_name(stderr, name);
-	fputs(": ", stderr);
+	fflush(out());
+	fputs("slp: ", err());
+	put_name(err(), name);
+	fputs(": ", err());
 	va_start(rest, format);
-	vfprintf(stderr, format, rest);
+	vfprintf(err(), format, rest);
 	va_end(rest);
-	fputc('\n', stderr);
+	fputc('\n', err());
+}
+
+outcome unread(const request *q, const char *path, int wrong)
+{
+	if (q->json) {
+		json j = json_file(path);
+		json_words(&j, "error", strerror(wrong));
+		json_line(&j);
+	}
+	complain(input_name(path), "%s", strerror(wrong));
+	return IS_UNREAD;
 }
 
 void complain_refused(const char *name, unsigned number, size_t offset)
@@ -107,6 +118,12 @@ void complain_refused(const char *name, unsigned number, size_t offset)
 size_t declared_length(const uint8_t *file)
 {
 	return (size_t)file[11] << 24 | (size_t)file[12] << 16 | (size_t)file[13] << 8 | file[14];
+}
+
+void declare_length(uint8_t *file, size_t len)
+{
+	for (int i = 0; i < 4; i++)
+		file[11 + i] = (uint8_t)(len >> (24 - 8 * i));
 }
 
 int unfilled(const uint8_t *file, size_t len)

@@ -1,12 +1,15 @@
 #!/bin/sh
 # Runs the tool and prints what it did: the command, its output, its errors after '!', its exit status after '='. Compared with tool.expected.
-#   tool.sh SLP DIRECTORY STORED POINTS     DIRECTORY is made anew; STORED is a stored replay of case 1; POINTS is the tool over points.c
+#   tool.sh SLP DIRECTORY STORED POINTS FOUR     DIRECTORY is made anew; STORED is a stored replay of case 1; POINTS is the tool over points.c;
+#                                                FOUR writes a replay of four players
 # $VALGRIND, where it is set, runs the commands that read and write most.
 set -u
 export LC_ALL=C
 slp=$(realpath "$1")
+here=$(realpath "$(dirname "$0")")
 stored=$(realpath "$3")
 points=$(realpath "$4")
+four=$(realpath "$5")
 rm -rf "$2"
 mkdir -p "$2"
 cd "$2" || exit 2
@@ -132,7 +135,6 @@ guarded walk cut.slp
 : >empty.slp
 run walk empty.slp
 run walk missing.slp
-run walk .
 mkdir directory
 run walk directory
 patched signature.slp 0 '\000'
@@ -244,6 +246,32 @@ to far.csv table far.slp
 sed -n '2,3p' far.csv | cut -d, -f1-5
 for f in newer order cut unfilled tail unknown signature missing; do run table $f.slp; done
 run table directory
+# other families; columns as they are asked for; decimal commas
+for family in pre post; do
+	"$slp" table --family=$family game.slp >family.csv
+	first=$([ $family = pre ] && echo 5-23 || echo 24-55)
+	cut -d, -f1-4,$first table.csv | cmp - family.csv && echo "$family: its columns of the table"
+done
+for family in start end item fod whispy stadium; do
+	echo "$family"
+	"$slp" table --family $family game.slp | awk 'NR <= 3 { print } END { print NR " lines" }'
+done
+"$slp" table --family=item game.slp --columns=id,replaced,item_position_x | awk -F, '$2 == 1'
+"$slp" table --family=start --final game.slp | awk -F, 'NR > 1 { n[$2]++ } END { print n[0] " frames, " n[1] + 0 " replaced" }'
+"$slp" table --columns=post_percent,id,port,post_percent game.slp | tail -n 2
+"$slp" table --comma --columns=id,pre_position_x,pre_position_y floats.slp | head -n 2
+"$slp" table --comma game.slp | tr ',;' '.,' | cmp - table.csv && echo '--comma: but for the marks the same'
+"$slp" table --family=post --columns=post_velocities_knockback_x --comma game.slp | grep , | head -n 2
+run table --family=frame game.slp
+run table --family= game.slp
+run table --columns=id,post_frob game.slp
+run table --columns= game.slp
+run table --columns=id, game.slp
+run table --family=item --columns=port game.slp
+run table --family=start --columns=pre_state game.slp
+from "$stored" table --family=item -
+from "$stored" table --columns=id,post_hitlag -
+run walk --comma game.slp
 to /dev/full table game.slp
 
 # ---- final frames only
@@ -306,7 +334,7 @@ run walk --frames=1 game.slp
 guarded meta game.slp
 from game.slp meta -
 run meta
-run meta a b
+run meta game.slp cut.slp missing.slp
 run meta cut.slp
 run meta unfilled.slp
 run meta tail.slp
@@ -394,6 +422,137 @@ cmp new.slp.spx game.slp.spx && echo 'new.slp.spx: the same'
 for f in old startless unknown missing; do [ -e $f.slp.spx ] && echo "$f.slp.spx: there"; done
 run index missing/game.slp
 
+# ---- info
+# where a player's character, type and team, the names and tags stand; and the end, the stage and the mark of teams
+character=148 name=468 tag=400 team=157 between=36 method=$((end - 6)) placements=$((end - 4)) stage=66 teams=60
+guarded info game.slp
+from game.slp info -
+from "$stored" info -
+for n in 300 807 808 955 2000 100000 400000 $((end - 1)); do
+	head -c $n game.slp >cut-info.slp
+	"$slp" info cut-info.slp 2>/dev/null
+done
+guarded info cut.slp unfilled.slp away.slp unknown.slp newer.slp order.slp high.slp far.slp missing.slp
+# without placements, by the rows; ended before its end, by a player; ways and numbers that have no names
+patched unplaced.slp $placements '\377\377\377\377'
+patched quit.slp $method '\007\001'
+patched other-end.slp $method '\005'
+patched other-stage.slp $stage '\000\143'
+patched other-character.slp $character '\050\001'
+for f in unplaced quit other-end other-stage other-character; do run info $f.slp; done
+# teams, of which the first and the second player are one, or none
+patched teams.slp $teams '\001'
+run info teams.slp
+printf '\001' | dd of=teams.slp bs=1 seek=$team conv=notrunc 2>/dev/null
+run info teams.slp
+# before placements, four players in teams
+"$four" >four.slp
+run info four.slp
+for way in 0 1 3 7; do
+	"$four" $way >other.slp
+	"$slp" info other.slp | sed 's/.*, end/end/'
+done
+head -c 300000 four.slp >four-cut.slp
+run info four-cut.slp
+"$slp" table --family=post --columns=id,port,follower,replaced,post_stocks four.slp | awk -F, '{ n[$2 " " $3 " " $4]++ } END { for (k in n) print k, n[k] }' | sort
+# names: Shift-JIS, what is none, the tag where there is none, what could be taken for the tool's words, no name at all, the metadata's
+patched names-info.slp $name '\203\145\203\130\203\147\000'
+run info names-info.slp
+patched broken-name.slp $name '\203\000'
+run info broken-name.slp
+patched tag.slp $name '\000'
+run info tag.slp
+patched forged-name.slp $name 'A (Fox) vs B\000'
+run info forged-name.slp
+patched odd-name.slp $name '\033[1m\n\\"\000'
+run info odd-name.slp
+cp tag.slp nameless.slp
+printf '\000' | dd of=nameless.slp bs=1 seek=$tag conv=notrunc 2>/dev/null
+run info nameless.slp
+head -c $end nameless.slp >metadata-name.slp
+printf "$key"'U\001al\000\000\000\000U\007players{U\0011{U\005names{U\004codeSU\003B#2}}U\0010{U\005names{U\007netplaySU\003ZedU\004codeSU\003Z#1}}}}}' >>metadata-name.slp
+run info metadata-name.slp
+to /dev/full info game.slp
+
+# ---- many files, and folders
+mkdir -p set/b/deep set/a set/c.slp
+cp game.slp set/b/2.slp
+cp cut.slp set/b/deep/1.slp
+cp unknown.slp set/a/x.slp
+cp game.slp set/a/x.txt
+ln -s ../b/2.slp set/a/link.slp
+ln -s nowhere set/a/broken.slp
+ln -s .. set/b/up
+mkfifo set/a/pipe.slp
+guarded info set
+run walk set game.slp
+run walk set/a/ set/c.slp
+run check set
+run meta set
+run info set/b/up
+run events set
+# the same in the same order, however many at a time
+for i in $(seq 1 40); do cp game.slp set/$i.slp; head -c ${i}0000 game.slp >set/cut-$i.slp; done
+for verb in info walk check meta 'info --json' 'check --json' 'meta --json'; do
+	"$slp" $verb --jobs=1 set >one.out 2>one.err
+	for jobs in 2 3 100; do
+		"$slp" $verb --jobs=$jobs set >many.out 2>many.err
+		cmp one.out many.out && cmp one.err many.err && echo "$verb, $jobs at a time: the same $(wc -l <many.out) lines, $(wc -l <many.err) of them messages"
+	done
+	"$slp" $verb set --progress=always 2>many.err >many.out
+	cmp one.out many.out && tr '\r' '\n' <many.err | sed -n 's/^.\[K//; /^slp: /p' | cmp - one.err && echo "$verb, with a bar: the same"
+done
+sed -n '$p' one.err
+guarded walk --jobs=4 set/a set/b
+for jobs in 0 257 -1 x ''; do run walk --jobs=$jobs game.slp; done
+run events --jobs=2 game.slp
+run table --json game.slp
+
+# ---- JSON: values that jq and Python read alike, and what they are
+read_back() {
+	"$slp" "$@" 2>/dev/null >json.out
+	jq -ca . json.out >json.jq && python3 "$here/json_lines.py" <json.out >json.py && cmp json.jq json.py && cat json.py
+}
+read_back info --json game.slp cut.slp unknown.slp missing.slp far.slp
+read_back info --json odd-name.slp broken-name.slp names-info.slp metadata-name.slp teams.slp quit.slp other-end.slp | cut -c1-330
+read_back walk --json game.slp cut.slp unknown.slp missing.slp
+read_back check --json game.slp cut.slp unknown.slp signature.slp newer.slp longer.slp missing.slp
+read_back events --json game.slp
+read_back events --json cut.slp
+read_back events --json unknown.slp
+read_back events --json signature.slp
+read_back events --json missing.slp
+read_back meta --json game.slp nested.slp none.slp twice.slp longer.slp cut.slp unknown.slp missing.slp
+read_back room --json --slots=2 --frames=28800
+read_back room --json --frames=1048577
+
+# ---- picture: drawn by rsvg-convert, and read by Python; the one in docs/ is this one
+drawn() {
+	"$slp" picture "$1" >picture.svg 2>err
+	status=$?
+	python3 -c 'import sys, xml.dom.minidom as x; print(x.parse("picture.svg").getElementsByTagName("text")[0].firstChild.data)' | cat -v
+	rsvg-convert -o picture.png picture.svg 2>/dev/null && echo "$1: $(wc -c <picture.svg) bytes, $(grep -c '<circle' picture.svg) rings, $(od -An -j16 -N8 -tu1 picture.png | tr -s ' ')"
+	: >out
+	show $status
+}
+echo '$ slp picture game.slp'
+${VALGRIND:-} "$slp" picture game.slp >game.svg
+echo "= $?"
+cmp game.svg "$here/../../docs/pictures/game.svg" && echo 'docs/pictures/game.svg: the same'
+for f in game four cut-info unfilled away far odd-name forged-name names-info nameless other-stage; do drawn $f.slp; done
+printf '<&>"' | dd of=odd-name.slp bs=1 seek=$name conv=notrunc 2>/dev/null
+drawn odd-name.slp
+for n in 807 808 955; do
+	head -c $n game.slp >cut-picture.slp
+	"$slp" picture cut-picture.slp 2>err >picture.svg
+	[ -s picture.svg ] || echo 'nothing to draw'
+	rsvg-convert -o picture.png picture.svg 2>/dev/null && echo drawn
+done
+for f in unknown newer order missing directory; do run picture $f.slp; done
+run picture
+run picture a b
+to /dev/full picture game.slp
+
 # ---- progress
 run --progress=never walk game.slp
 run --progress=auto walk game.slp
@@ -438,8 +597,8 @@ for which in '>&-' '<&- >&- 2>&-'; do
 	closed "$which" closed.slp last.slp final game.slp closed.slp
 	closed "$which" alone.slp.spx game.slp.spx index alone.slp
 done
-for verb in 'walk game.slp' 'check game.slp' 'events game.slp' 'meta game.slp' 'table game.slp' 'table --final game.slp' 'index game.slp' \
-	'find game.slp -64' 'room' 'help' 'version' 'demo -' 'resave game.slp -' 'final game.slp -'; do
+for verb in 'info game.slp' 'picture game.slp' 'walk game.slp' 'check game.slp' 'events game.slp' 'meta game.slp' 'table game.slp' 'table --final game.slp' \
+	'index game.slp' 'find game.slp -64' 'room' 'help' 'version' 'demo -' 'resave game.slp -' 'final game.slp -'; do
 	"$slp" --progress=always $verb >open.out 2>err
 	"$slp" --progress=always $verb >closed.out 2>&- && cmp open.out closed.out && echo "$verb, errors closed: the same"
 done
@@ -598,9 +757,11 @@ odd 'long \300\257\340\200\257.slp'
 odd 'half \355\240\200.slp'
 odd 'a "quoted" one\\\\.slp'
 odd 'forged.slp: 398 0 whole'
+read_back walk --json $(printf '\033[31mred.slp') "$(printf 'a\nb.slp: 1 0 whole\nc.slp')" "$(printf 'turned \342\200\256pls.slp')" "$(printf 'broken \377\303.slp')" \
+	"$(printf 'half \355\240\200.slp')" "$(printf 'a "quoted" one\\\\.slp')" "$(printf 'S\303\270ren \344\270\255.slp')" "$(printf 'tag \363\240\201\201')"
 name=$(printf '\033]0;x\007\n.slp')
 cp cut.slp "$name"
-for verb in walk check events meta table; do "$slp" $verb "$name" 2>&1 | sed -n '$p'; done
+for verb in info walk check events meta table picture; do "$slp" $verb "$name" 2>&1 | sed -n '$p'; done
 "$slp" check "$name" "$name.none" 2>&1
 for n in 1 2; do "$slp" index "$name" 2>&1; done
 "$slp" find "$name" -123 2>&1
