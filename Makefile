@@ -1,6 +1,9 @@
 # The C side: the library, the tool, the tests. `make help` lists what can be asked for. All output is under target/.
-VERSION := 0.1.0
+VERSION := $(shell sed -n 's/^.define SLP_VERSION "\(.*\)"/\1/p' include/slp.h)
+# The first part of the shared library's name changes with every version that old programs cannot use.
+SONAME := libslp.so.0
 PREFIX ?= /usr/local
+LIBDIR ?= $(PREFIX)/lib
 DESTDIR ?=
 SLP_LIB ?= target/staticlib/libslp.a
 CFLAGS ?= -O2 -g
@@ -9,10 +12,14 @@ OBJCOPY ?= objcopy
 # Empty: the tests run without valgrind.
 VALGRIND ?= valgrind -q --error-exitcode=1
 
-WARNINGS := -Wall -Wextra -pedantic -Werror
-C11 := -std=c11 $(WARNINGS) -Wshadow -Wconversion -Wstrict-prototypes -Wmissing-prototypes -D_DEFAULT_SOURCE -Iinclude
+# -Werror in the gate: another compiler may warn of more.
+WERROR ?=
+WARNINGS := -Wall -Wextra -pedantic $(WERROR)
+C11 = -std=c11 $(WARNINGS) -Wshadow -Wconversion -Wstrict-prototypes -Wmissing-prototypes -D_DEFAULT_SOURCE -Iinclude $(CPPFLAGS)
 TEST_PATHS := -Itests/c/shared -Itests/c/model
-CXX11 := -std=c++11 $(WARNINGS) -Iinclude
+CXX11 = -std=c++11 $(WARNINGS) -Iinclude $(CPPFLAGS)
+
+SHARED := target/shared/libslp.so.$(VERSION)
 
 TOOL := target/bin/slp
 TOOL_SOURCES := $(wildcard tools/*.c tools/*.cpp)
@@ -32,12 +39,19 @@ TESTS := $(PROGRAMS:%=target/c/bin/%) target/c/bin/header_examples target/c/bin/
 .DELETE_ON_ERROR:
 .SECONDARY:
 
-all: $(SLP_LIB) $(TOOL)
+all: $(SLP_LIB) $(SHARED) $(TOOL)
 
 # The crates that it stands on are proved first, side by side: on its own `rt staticlib` proves one after another. It proves slp itself.
 lib target/staticlib/libslp.a:
 	RT_JOBS=$$(.ci/jobs) rt check $$(sed -n 's/^slp: *//p' crates.txt)
 	rt staticlib slp
+
+# The same objects; only the calls of slp.h are seen from outside (slp.map), and it needs nothing but C's library.
+$(SHARED): $(SLP_LIB) slp.map Makefile
+	@mkdir -p $(@D)
+	$(CC) -shared $(CFLAGS) $(LDFLAGS) -Wl,-z,defs -Wl,-soname,$(SONAME) -Wl,--version-script=slp.map -o $@ \
+		-Wl,--whole-archive $(SLP_LIB) -Wl,--no-whole-archive
+	@ln -sf $(@F) $(@D)/$(SONAME) && ln -sf $(SONAME) $(@D)/libslp.so
 
 $(TOOL): $(TOOL_OBJECTS) $(SLP_LIB)
 	@mkdir -p $(@D)
@@ -45,11 +59,7 @@ $(TOOL): $(TOOL_OBJECTS) $(SLP_LIB)
 
 target/c/tools/%.o: tools/%.cpp Makefile
 	@mkdir -p $(@D)
-	$(CXX) -std=c++17 $(WARNINGS) $(CXXFLAGS) -MMD -MP -c -o $@ $<
-
-target/c/tools/%.o: tools/%.c Makefile
-	@mkdir -p $(@D)
-	$(CC) $(C11) $(CFLAGS) -DTOOL_VERSION='"$(VERSION)"' -MMD -MP -c -o $@ $<
+	$(CXX) -std=c++17 $(WARNINGS) $(CPPFLAGS) $(CXXFLAGS) -MMD -MP -c -o $@ $<
 
 target/c/tests/%.o: tests/%.c Makefile
 	@mkdir -p $(@D)
@@ -70,7 +80,7 @@ target/c/%.o: %.cpp Makefile
 # The examples of the header are for every reader's flags: without the strictest ones.
 target/c/tests/c/header_examples.o: tests/c/header_examples.c Makefile
 	@mkdir -p $(@D)
-	$(CC) -std=c11 $(WARNINGS) -Iinclude $(CFLAGS) -MMD -MP -c -o $@ $<
+	$(CC) -std=c11 $(WARNINGS) -Iinclude $(CPPFLAGS) $(CFLAGS) -MMD -MP -c -o $@ $<
 
 target/c/bin/header_examples: target/c/tests/c/header_examples.o $(SLP_LIB)
 	@mkdir -p $(@D)
@@ -152,34 +162,38 @@ test-rust: $(SLP_LIB) target/c/bin/dying.so
 # Made anew each time: another PREFIX may be asked for.
 target/slp.pc: slp.pc.in always
 	@mkdir -p $(@D)
-	sed -e 's|@PREFIX@|$(PREFIX)|' -e 's|@VERSION@|$(VERSION)|' slp.pc.in > $@
+	sed -e 's|@PREFIX@|$(PREFIX)|' -e 's|@LIBDIR@|$(LIBDIR)|' -e 's|@VERSION@|$(VERSION)|' slp.pc.in > $@
 
 install: all target/slp.pc
-	install -d $(DESTDIR)$(PREFIX)/bin $(DESTDIR)$(PREFIX)/include $(DESTDIR)$(PREFIX)/lib/pkgconfig
+	install -d $(DESTDIR)$(PREFIX)/bin $(DESTDIR)$(PREFIX)/include $(DESTDIR)$(LIBDIR)/pkgconfig
 	install -m 755 $(TOOL) $(DESTDIR)$(PREFIX)/bin/slp
 	install -m 644 include/slp.h $(DESTDIR)$(PREFIX)/include/slp.h
-	install -m 644 $(SLP_LIB) $(DESTDIR)$(PREFIX)/lib/libslp.a
-	install -m 644 target/slp.pc $(DESTDIR)$(PREFIX)/lib/pkgconfig/slp.pc
+	install -m 644 $(SLP_LIB) $(DESTDIR)$(LIBDIR)/libslp.a
+	install -m 644 $(SHARED) $(DESTDIR)$(LIBDIR)/libslp.so.$(VERSION)
+	ln -sf libslp.so.$(VERSION) $(DESTDIR)$(LIBDIR)/$(SONAME)
+	ln -sf $(SONAME) $(DESTDIR)$(LIBDIR)/libslp.so
+	install -m 644 target/slp.pc $(DESTDIR)$(LIBDIR)/pkgconfig/slp.pc
 
 uninstall:
-	rm -f $(DESTDIR)$(PREFIX)/bin/slp $(DESTDIR)$(PREFIX)/include/slp.h
-	rm -f $(DESTDIR)$(PREFIX)/lib/libslp.a $(DESTDIR)$(PREFIX)/lib/pkgconfig/slp.pc
+	rm -f $(DESTDIR)$(PREFIX)/bin/slp $(DESTDIR)$(PREFIX)/include/slp.h $(DESTDIR)$(LIBDIR)/pkgconfig/slp.pc
+	rm -f $(addprefix $(DESTDIR)$(LIBDIR)/,libslp.a libslp.so $(SONAME) libslp.so.$(VERSION))
 
 clean:
-	rm -rf target/c target/slp.pc $(TOOL)
+	rm -rf target/c target/shared target/slp.pc $(TOOL)
 
 help:
-	@echo 'make            the library (by rt, where it is not there yet) and the tool $(TOOL)'
+	@echo 'make            the library (by rt, where it is not there yet), libslp.so and the tool $(TOOL)'
 	@echo 'make lib        the library again, from its proved sources'
 	@echo 'make test       the tests of the library, the header, the examples and the tool'
 	@echo 'make test-rust  the tests of the Rust crate over the library; they need cargo'
 	@echo 'make examples   the programs of examples/, under target/c/examples'
-	@echo 'make install    the tool, the library, slp.h and slp.pc, under PREFIX ($(PREFIX))'
+	@echo 'make install    the tool, both libraries, slp.h and slp.pc, under PREFIX ($(PREFIX))'
 	@echo 'make uninstall  removes them again'
 	@echo 'make clean      removes what make built, but not the library'
 	@echo
-	@echo 'Variables: PREFIX, DESTDIR, CC, CXX, CFLAGS, CXXFLAGS, LDFLAGS,'
+	@echo 'Variables: PREFIX, LIBDIR, DESTDIR, CC, CXX, CPPFLAGS, CFLAGS, CXXFLAGS, LDFLAGS,'
 	@echo '           SLP_LIB   another library than target/staticlib/libslp.a'
+	@echo '           WERROR    -Werror: a warning is an error, as in the gate'
 	@echo '           VALGRIND  how to run it; empty: tests run without it'
 
 -include $(wildcard target/c/*/*.d target/c/*/*/*.d target/c/*/*/*/*.d)

@@ -1,4 +1,4 @@
-/* slp.h: Slippi replays, written and read. Link libslp.a; C11 or C++11, x86-64.
+/* slp.h: Slippi replays, written and read. Link libslp.a or libslp.so; C11 or C++11, x86-64.
  *
  * Every call takes every input, ends, and answers with a refusal number or 0. A refused call changes no byte that is lent to it.
  * Nothing is allocated, nothing is kept between calls, and calls on different memory may run at the same time.
@@ -13,6 +13,9 @@
 
 #include <stddef.h>
 #include <stdint.h>
+
+/* The library's version. */
+#define SLP_VERSION "0.1.0"
 
 #ifdef __cplusplus
 extern "C" {

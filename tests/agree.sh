@@ -59,7 +59,7 @@ done | sort >$to/programs
 sed -n '/^| program /,/^$/s/^| \([a-z_, ]*\) |.*/\1/p' tests/c/README.md | tr -d ' ' | tr ',' '\n' | grep -Fx -f $to/programs | sort >$to/listed
 agree 'the programs of tests/c and its README.md' programs listed
 
-sed -n 's/^VERSION := //p' Makefile >$to/version
+sed -n 's/^#define SLP_VERSION "\(.*\)"/\1/p' include/slp.h >$to/version
 sed -n 's/^version = "\(.*\)"/\1/p' rust/slp/Cargo.toml >$to/crate-version
-agree 'the versions of Makefile and rust/slp' version crate-version
+agree 'the versions of include/slp.h and rust/slp' version crate-version
 echo "agree: $checked lines said the same in two places"

@@ -132,7 +132,7 @@ static int print_help(const request *q)
 static int print_version(const request *q)
 {
 	(void)q;
-	puts("slp " TOOL_VERSION ", replays to version 3.18.0");
+	puts("slp " SLP_VERSION ", replays to version 3.18.0");
 	return WELL;
 }
 
