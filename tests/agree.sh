@@ -29,7 +29,7 @@ sed -n 's/^\t\[\(SLP_[A-Z_]*\)\] = \(".*"\),$/\1 \2/p' tools/words.c |
 sed -n '/^const WORDS/,/^];/s/^\t\(".*"\),$/\1/p' rust/slp/src/refusals.rs | awk '$0 != "\"\"" { print NR - 1, $0 }' >$to/crate
 agree 'the words of tools/words.c and rust/slp' tool crate
 
-# 'FAMILY NAME WIDTH VERSION' of every column, as the definition has them; in the crate without width and version. The header has its families in
+# 'FAMILY NAME WIDTH VERSION' of every column, as the definition has them; in the crate without version. The header has its families in
 # another order, so they are sorted; the columns of each stay as they stand.
 awk '/^columnsOf .* =$/ { family = $2; gsub(/[A-Z]/, "_&", family); family = toupper(substr(family, 2)) }
 	/^    col / { name = toupper($NF); gsub(/\./, "_", name); print family, name, $2, $3 "." $4 }' crates/layout/specs/Columns.antt |
@@ -42,10 +42,12 @@ awk 'NR == FNR { families[$1]; next }
 		print best, substr(name, length(best) + 2), width, since
 	}' $to/columns include/slp.h | sort -s -k1,1 >$to/header-columns
 agree 'the columns of layout/specs/Columns.antt and include/slp.h' columns header-columns
-awk '/^columns! \{/ { on = 1; next } /^}/ { on = 0 } on && /^\t[a-z_]*:$/ { family = toupper(substr($1, 1, length($1) - 1)); next }
-	on && !/\/\/\// { for (i = 1; i <= NF; i++) print family, $i }' rust/slp/src/columns.rs | sort -s -k1,1 >$to/crate-columns
-cut -d' ' -f1,2 $to/columns >$to/column-names
-agree 'the columns of layout/specs/Columns.antt and rust/slp' column-names crate-columns
+# with what each holds, as the rows of slp.h have it; the method of a column has its name, but that 'type' is a word of the language
+awk '/^columns! \{/ { on = 1; next } /^}/ { on = 0 } on && /^\t[a-z_]* [A-Za-z]*:$/ { family = toupper($1); next }
+	on && NF == 3 { name = $2 == "type_id" ? "TYPE" : toupper($2); if (name != $1) print "not one name:", $1, $2
+		print family, $1, substr($3, 2) / 8 }' rust/slp/src/columns.rs | sort -s -k1,1 >$to/crate-columns
+cut -d' ' -f1-3 $to/columns >$to/column-widths
+agree 'the columns of layout/specs/Columns.antt and rust/slp' column-widths crate-columns
 
 # In the tool each by its number and with its name in small letters.
 sed -n 's/^\t\[SLP_\([A-Z0-9_]*\)\] = { "\([a-z0-9_]*\)", .*/\1 \2/p' tools/table.c >$to/tool-columns
@@ -60,6 +62,8 @@ sed -n '/^| program /,/^$/s/^| \([a-z_, ]*\) |.*/\1/p' tests/c/README.md | tr -d
 agree 'the programs of tests/c and its README.md' programs listed
 
 sed -n 's/^#define SLP_VERSION "\(.*\)"/\1/p' include/slp.h >$to/version
-sed -n 's/^version = "\(.*\)"/\1/p' rust/slp/Cargo.toml >$to/crate-version
-agree 'the versions of include/slp.h and rust/slp' version crate-version
+for other in rust/slp/Cargo.toml; do
+	sed -n 's/^version = "\(.*\)"/\1/p' $other >$to/other-version
+	agree "the versions of include/slp.h and $other" version other-version
+done
 echo "agree: $checked lines said the same in two places"

@@ -1,5 +1,5 @@
 #!/bin/sh
-# Tests of the Rust crate over the library: cargo's own, and the examples, which print what the C examples print.
+# Tests of the Rust crate over the library: cargo's own, its documents without a warning, and the examples, which print what the C examples print.
 #   tests/rust.sh SLP_LIB
 set -eu
 cd "$(dirname "$0")/.."
@@ -11,6 +11,7 @@ said=$CARGO_TARGET_DIR/said
 
 cargo test --quiet --manifest-path rust/slp/Cargo.toml >"$said" 2>&1 || { cat "$said"; exit 1; }
 passed=$(awk '/^test result: ok/ { n += $4 } END { print n }' "$said")
+RUSTDOCFLAGS='-D warnings' cargo doc --quiet --no-deps --manifest-path rust/slp/Cargo.toml
 cargo build --quiet --examples --manifest-path rust/slp/Cargo.toml
 examples=$CARGO_TARGET_DIR/${CARGO_BUILD_TARGET:-}/debug/examples
 tests/c/examples.sh "$examples" | diff -u tests/c/examples.expected -

@@ -100,7 +100,7 @@ fn check_again(back: &Case, file: &[u8]) -> Option<String> {
 	match slp::write(&back.game, &back.stores(), &mut out) {
 		Ok(len) if len == file.len() && out == file => None,
 		Ok(len) => Some(format!("written again: {len} bytes, or another byte than in the file of {}", file.len())),
-		Err(number) => Some(format!("written again: refused {number}")),
+		Err(refused) => Some(format!("written again: {refused}")),
 	}
 }
 

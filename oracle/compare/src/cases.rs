@@ -140,7 +140,7 @@ fn newer_than_newest() -> Result<(), String> {
 	let theirs = original::file(&adapt::game(&case));
 	println!("case 11, 3.18.1: ours refuses {ours:?}, the Rust's {theirs:?}");
 	match (ours, theirs) {
-		(Err(1), Err(_)) => Ok(()),
+		(Err(slp::Refused { number: 1, .. }), Err(_)) => Ok(()),
 		_ => Err("case 11: 3.18.1 is not refused".into()),
 	}
 }

@@ -58,7 +58,7 @@ fn check_file(case: &Case, game: &Game, counts: &mut Counts) -> Option<String> {
 	let spare = if counts.games % 2 == 0 { 0 } else { 1 + counts.games % 64 };
 	let mut out = guarded(theirs.len() + spare);
 	match slp::write(&case.game, &case.stores(), &mut out) {
-		Err(number) => return Some(format!("our writer refuses {number} with room for the Rust's file")),
+		Err(refused) => return Some(format!("our writer with room for the Rust's file: {refused}")),
 		Ok(len) if len != theirs.len() => return Some(format!("our file has {len} bytes, the Rust's {}", theirs.len())),
 		Ok(len) if !kept(&out, len) => return Some("bytes past our file are touched".into()),
 		Ok(_) => (),
@@ -100,7 +100,7 @@ fn check_runs(case: &Case, theirs: &[u8], number: usize) -> Option<String> {
 	let mut out = guarded(place + theirs.len() - first);
 	let run = |out: &mut [u8], place, range| slp::write_frames(&case.game.frames, &case.stores(), out, place, range);
 	let end = match run(&mut out, place, 0..cut).and_then(|middle| run(&mut out, middle, cut..frames)) {
-		Err(number) => return Some(format!("our runs of frames are refused {number}")),
+		Err(refused) => return Some(format!("our runs of frames: {refused}")),
 		Ok(end) => end,
 	};
 	let last = first + (end - place);
@@ -132,7 +132,7 @@ fn check_cleared(case: &Case, theirs: &[u8]) -> Option<String> {
 fn check_short(case: &Case, len: usize) -> Option<String> {
 	let mut out = guarded(len);
 	let answer = slp::write(&case.game, &case.stores(), &mut out);
-	(answer != Err(12) || !kept(&out, 0)).then(|| format!("a short output is touched, or not refused: {answer:?}"))
+	(answer != Err(slp::Refused::from(12)) || !kept(&out, 0)).then(|| format!("a short output is touched, or not refused: {answer:?}"))
 }
 
 /// Our reader finds the Rust's file whole, with nothing left over.
@@ -164,7 +164,7 @@ fn check_mask(case: &Case, game: &Game, keep: slp::Rollbacks, rust_keep: Rollbac
 	let answer = slp::rollbacks(&case.ids, keep, &mut mask, &mut scratch);
 	if !in_range {
 		counts.refused_masks += 1;
-		let stays = answer == Err(13) && kept(&mask, 0) && kept(&scratch, 0);
+		let stays = answer == Err(slp::Refused::from(13)) && kept(&mask, 0) && kept(&scratch, 0);
 		return (!stays).then(|| format!("mask {keep:?} of ids out of range: {answer:?}"));
 	}
 	let theirs = match original::mask(game, rust_keep) {

@@ -14,7 +14,7 @@ pub fn check(case: &Case, game: &Game, counts: &mut Counts) -> Option<String> {
 	if !case.ids_in_range() {
 		let (mut out, mut scratch) = (guarded(9), guarded(case.ids.len()));
 		let answer = slp::write_final(&case.game, &case.stores(), &mut out, &mut scratch);
-		let same = answer == Err(13) && stays(&out, 0) && stays(&scratch, 0);
+		let same = answer == Err(13.into()) && stays(&out, 0) && stays(&scratch, 0);
 		return (!same).then(|| format!("final frames of ids out of range: {answer:?}"));
 	}
 	let gathered = kept::game(case);
@@ -39,7 +39,7 @@ fn check_file(case: &Case, theirs: &[u8], mask: &[u8], spare: usize) -> Option<S
 		Ok(_) if scratch[..mask.len()] != *mask => Some("the scratch of the final frames is not the Rust's mask".into()),
 		Ok(len) if !stays(&out, len) || !stays(&scratch, mask.len()) => Some("final frames: bytes beyond are touched".into()),
 		Ok(_) => None,
-		Err(number) => Some(format!("our final frames are refused {number}")),
+		Err(refused) => Some(format!("our final frames: {refused}")),
 	}
 }
 
@@ -50,7 +50,7 @@ fn check_short(case: &Case, len: usize) -> Option<String> {
 	short.into_iter().filter(|&(room, scratch)| room < len || scratch < rows).find_map(|(room, scratch)| {
 		let (mut out, mut scratch) = (guarded(room), guarded(scratch));
 		let answer = slp::write_final(&case.game, &case.stores(), &mut out, &mut scratch);
-		let same = answer == Err(12) && stays(&out, 0) && stays(&scratch, 0);
+		let same = answer == Err(12.into()) && stays(&out, 0) && stays(&scratch, 0);
 		(!same).then(|| format!("final frames: a short output or scratch is touched, or not refused: {answer:?}"))
 	})
 }

@@ -4,13 +4,13 @@ use games::{random::Random, Case};
 
 use crate::{check::guarded, counts::Counts};
 
-/// What is refused, and its number.
-type Refused = (&'static str, u8);
+/// What is refused, and how.
+type Refused = (&'static str, slp::Refused);
 
 pub fn check(case: &Case, theirs: &[u8], counts: &mut Counts) -> Option<String> {
 	let random = &mut Random::new(counts.games as u64);
 	match record(case, theirs.len(), random, counts) {
-		Err((what, number)) => Some(format!("{what} of a recording is refused {number}")),
+		Err((what, refused)) => Some(format!("{what} of a recording: {refused}")),
 		Ok(file) => (file != theirs).then(|| "a recording is not the Rust's file".into()),
 	}
 }
@@ -18,7 +18,7 @@ pub fn check(case: &Case, theirs: &[u8], counts: &mut Counts) -> Option<String> 
 /// The recording: each call has an output of its own, with `room` bytes and some before its place.
 fn record(case: &Case, room: usize, random: &mut Random, counts: &mut Counts) -> Result<Vec<u8>, Refused> {
 	let mut out = guarded(room + 8);
-	let head = slp::write_head(&case.game, &case.stores(), &mut out).map_err(|number| ("the head", number))?;
+	let head = slp::write_head(&case.game, &case.stores(), &mut out).map_err(|refused| ("the head", refused))?;
 	let mut file = out[..head].to_vec();
 	let frames = case.ids.len();
 	let mut a = 0;
@@ -26,16 +26,16 @@ fn record(case: &Case, room: usize, random: &mut Random, counts: &mut Counts) ->
 		let most = if random.percent(30) { frames } else { 9 };
 		let b = frames.min(a + random.within(1..most + 1));
 		let (part, place) = (part(case, a, b, random), random.within(0..8));
-		let end = slp::write_frames(&part.game.frames, &part.stores(), &mut out, place, 0..b - a).map_err(|number| ("a run", number))?;
+		let end = slp::write_frames(&part.game.frames, &part.stores(), &mut out, place, 0..b - a).map_err(|refused| ("a run", refused))?;
 		file.extend(&out[place..end]);
 		counts.recorded_runs += 1;
 		a = b;
 	}
 	let place = random.within(0..8);
-	let closed = slp::write_end(&case.game, &case.stores(), &mut out, place).map_err(|number| ("the end", number))?;
+	let closed = slp::write_end(&case.game, &case.stores(), &mut out, place).map_err(|refused| ("the end", refused))?;
 	let data = file.len() + closed.events - place - 15;
 	file.extend(&out[place..closed.end]);
-	file[11..15].copy_from_slice(&slp::length_field(data).map_err(|number| ("the length", number))?);
+	file[11..15].copy_from_slice(&slp::length_field(data).map_err(|refused| ("the length", refused))?);
 	Ok(file)
 }
 

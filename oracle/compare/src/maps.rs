@@ -66,7 +66,7 @@ fn differs(map: &Map<String, Value>) -> Result<usize, String> {
 		answer => return Err(format!("{map:?}: {answer:?}, {out:02x?} for {body:02x?}")),
 	}
 	let mut short = vec![0xee; body.len().saturating_sub(1)];
-	if !body.is_empty() && (slp::write_map(&ours, &mut short) != Err(12) || short.iter().any(|&b| b != 0xee)) {
+	if !body.is_empty() && (slp::write_map(&ours, &mut short) != Err(slp::Refused::from(12)) || short.iter().any(|&b| b != 0xee)) {
 		return Err(format!("{map:?}: an output one byte short"));
 	}
 	match slp::read_map(&body) {
@@ -119,7 +119,7 @@ fn beyond() -> Result<(), String> {
 		("a text of 256 bytes", text, 21, false),
 		("a key of 256 bytes", key, 21, false),
 	] {
-		if slp::write_map(&lent(&map), &mut out) != Err(number) {
+		if slp::write_map(&lent(&map), &mut out) != Err(slp::Refused::from(number)) {
 			return Err(format!("{name} is not refused {number}"));
 		}
 		let rust = std::panic::catch_unwind(|| peppi::io::ubjson::body(&map).len());

@@ -10,7 +10,7 @@ use games::{
 };
 use peppi::{frame::Rollbacks, game::immutable::Game, io::slippi};
 use serde_json::{Map, Value};
-use slp::{Optional, Seat, Text};
+use slp::{Optional, Refused, Seat, Text};
 
 use crate::{
 	cases,
@@ -22,7 +22,7 @@ use crate::{
 struct Line {
 	number: u8,
 	input: &'static str,
-	ours: Result<usize, u8>,
+	ours: Result<usize, Refused>,
 	rust: String,
 }
 
@@ -32,12 +32,12 @@ pub fn table() -> Result<(), String> {
 	let lines = lines();
 	for line in &lines {
 		let ours = match line.ours {
-			Err(number) => format!("refused {number}"),
+			Err(refused) => format!("refused {}", refused.number),
 			Ok(len) => format!("writes {len} bytes"),
 		};
 		println!("| {} | {} | {ours} | {} |", line.number, line.input, line.rust);
 	}
-	match lines.iter().find(|line| line.ours != Err(line.number)) {
+	match lines.iter().find(|line| line.ours != Err(Refused::from(line.number))) {
 		Some(line) => Err(format!("not refused {}: {}", line.number, line.input)),
 		None => Ok(()),
 	}
@@ -95,7 +95,7 @@ fn of_version(version: (u8, u8), fits: impl Fn(&Case) -> bool) -> Case {
 	(0..).map(|n| generate::game(3, n, Size::Any)).find(|case| case.version() == version && fits(case)).unwrap()
 }
 
-fn ours(case: &Case) -> Result<usize, u8> {
+fn ours(case: &Case) -> Result<usize, Refused> {
 	slp::write(&case.game, &case.stores(), &mut vec![0; 20_000_000])
 }
 

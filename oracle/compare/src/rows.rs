@@ -102,7 +102,7 @@ fn check_frame(case: &Case, game: &Game, index: usize, counts: &mut Counts) -> O
 	};
 	let row = match ours::frame_row(&case.game.frames, &case.stores(), index) {
 		Ok(row) => row,
-		Err(number) => return Some(format!("our frame row {index} is refused {number}")),
+		Err(refused) => return Some(format!("our frame row {index}: {refused}")),
 	};
 	counts.rows += 1;
 	if (row.id, row.port_count) != (theirs.id, theirs.ports.len()) {
@@ -175,10 +175,10 @@ fn check_players(case: &Case, row: &ours::Frame, theirs: &transpose::Frame, inde
 	})
 }
 
-fn own<T: Row>(case: &Case, what: &str, row: Result<T, u8>, theirs: &impl Values) -> Option<String> {
+fn own<T: Row>(case: &Case, what: &str, row: Result<T, slp::Refused>, theirs: &impl Values) -> Option<String> {
 	match row {
 		Ok(row) => same(case, what, &row, theirs),
-		Err(number) => Some(format!("{what} is refused {number}")),
+		Err(refused) => Some(format!("{what}: {refused}")),
 	}
 }
 
@@ -189,7 +189,7 @@ fn check_family<T: Row, U: Values>(
 	range: ours::Range,
 	theirs: &Option<Vec<U>>,
 	offset: Option<u32>,
-	row: impl Fn(usize) -> Result<T, u8>,
+	row: impl Fn(usize) -> Result<T, slp::Refused>,
 	counts: &mut Counts,
 ) -> Option<String> {
 	let rows = theirs.as_deref().unwrap_or_default();
@@ -233,5 +233,5 @@ fn check_ends(case: &Case) -> Option<String> {
 		ours::dreamland_whispy_row(frames, &stores, counts.whispys).err(),
 		ours::stadium_transformation_row(frames, &stores, counts.stadiums).err(),
 	];
-	answers.iter().any(|a| *a != Some(13)).then(|| format!("rows past the ends: {answers:?}"))
+	answers.iter().any(|a| *a != Some(slp::Refused::from(13))).then(|| format!("rows past the ends: {answers:?}"))
 }

@@ -28,7 +28,7 @@ fn cells(case: &Case, family: Family, slot: usize, rows: usize) -> Result<Vec<u3
 		Ok(n) if n != len => Err(format!("run of {family:?}: {n} cells and not {len}")),
 		Ok(_) if out[len..] != [GUARD; 3] => Err(format!("run of {family:?}: cells past it are touched")),
 		Ok(_) => Ok(out[..len].to_vec()),
-		Err(number) => Err(format!("run of {family:?} is refused {number}")),
+		Err(refused) => Err(format!("run of {family:?}: {refused}")),
 	}
 }
 

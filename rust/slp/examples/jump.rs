@@ -33,7 +33,7 @@ fn main() -> std::io::Result<()> {
 	};
 	println!("an index of {} bytes", index.len());
 	match slp::find_frame(&index, id) {
-		Err(number) => println!("refused {number}"),
+		Err(refused) => println!("refused {}", refused.number),
 		Ok(moment) => {
 			println!("frame {}: row {}", moment.id, moment.row);
 			show_frame(&file, moment.offset as usize);

@@ -2,9 +2,9 @@
 //!
 //!     cargo run --example masks
 
-use slp::Rollbacks;
+use slp::{Refused, Rollbacks};
 
-fn main() -> Result<(), u8> {
+fn main() -> Result<(), Refused> {
 	let ids = [-123i32, -122, -122, -121].map(|id| id as u32);
 	for (name, keep) in [("all but the first", Rollbacks::ExceptFirst), ("all but the last", Rollbacks::ExceptLast)] {
 		let (mut mask, mut scratch) = ([0; 4], [0; 3]);

@@ -3,7 +3,7 @@
 //!
 //!     cargo run --example record_live match.slp
 
-use std::{fs::File, io::Write, os::unix::fs::FileExt};
+use std::{error::Error, fs::File, io::Write, os::unix::fs::FileExt};
 
 use slp::{columns, Counts, End, Family, Game, Map, Optional, PortColumn, Stores, Value, Version};
 
@@ -70,45 +70,40 @@ fn put(file: &mut File, bytes: &[u8]) -> std::io::Result<()> {
 	file.sync_all()
 }
 
-/// A refusal as an error.
-fn words(number: u8) -> std::io::Error {
-	std::io::Error::other(slp::refusal_words(number))
-}
-
 /// The whole recording; its bytes.
-fn record(file: &mut File, metadata: &[u8]) -> std::io::Result<usize> {
+fn record(file: &mut File, metadata: &[u8]) -> Result<usize, Box<dyn Error>> {
 	let mut buffer = vec![0; 1 << 16];
 	let part = Part::played(0, 0);
-	let head = slp::write_head(&part.game, &part.stores(metadata), &mut buffer).map_err(words)?;
+	let head = slp::write_head(&part.game, &part.stores(metadata), &mut buffer)?;
 	put(file, &buffer[..head])?;
 	let (mut events, mut done) = (head, 0);
 	while done < FRAMES {
 		let n = RUN.min(FRAMES - done);
 		let part = Part::played(done, n);
-		let run = slp::write_frames(&part.game.frames, &part.stores(metadata), &mut buffer, 0, 0..n).map_err(words)?;
+		let run = slp::write_frames(&part.game.frames, &part.stores(metadata), &mut buffer, 0, 0..n)?;
 		put(file, &buffer[..run])?;
 		(events, done) = (events + run, done + n);
 	}
-	let end = slp::write_end(&part.game, &part.stores(metadata), &mut buffer, 0).map_err(words)?;
+	let end = slp::write_end(&part.game, &part.stores(metadata), &mut buffer, 0)?;
 	put(file, &buffer[..end.end])?;
-	file.write_all_at(&slp::length_field(events + end.events - 15).map_err(words)?, 11)?;
+	file.write_all_at(&slp::length_field(events + end.events - 15)?, 11)?;
 	file.sync_all()?;
 	Ok(events + end.end)
 }
 
-fn main() -> std::io::Result<()> {
+fn main() -> Result<(), Box<dyn Error>> {
 	let Some(path) = std::env::args().nth(1) else {
 		eprintln!("usage: record_live REPLAY");
 		std::process::exit(2)
 	};
 	let last = Map(vec![(b"lastFrame".to_vec(), Value::Number(-123 + FRAMES as i32 - 1))]);
 	let mut body = [0; 64];
-	let metadata = slp::write_map(&last, &mut body).map(|n| &body[..n]).map_err(words)?;
+	let metadata = slp::write_map(&last, &mut body).map(|n| &body[..n])?;
 	let len = record(&mut File::create(&path)?, metadata)?;
 	println!("recorded {FRAMES} frames, {RUN} a run: {len} bytes");
 	// the file of the whole match at once
 	let (part, mut whole) = (Part::played(0, FRAMES), vec![0; 1 << 16]);
-	let all = slp::write(&part.game, &part.stores(metadata), &mut whole).map_err(words)?;
+	let all = slp::write(&part.game, &part.stores(metadata), &mut whole)?;
 	let same = std::fs::read(path)? == whole[..all];
 	println!("the file of the whole match: {all} bytes, {}", if same { "the same" } else { "others" });
 	std::process::exit(i32::from(!same))

@@ -21,7 +21,7 @@ fn main() {
 	let stores = Stores { ids: &[0, 1, 2], pres: &pres, posts: &posts, presence: &[3], ..Default::default() };
 	for index in 0..=FRAMES {
 		match rows::frame_row(&frames, &stores, index) {
-			Err(number) => println!("row {index}: refused {number}"),
+			Err(refused) => println!("row {index}: refused {}", refused.number),
 			Ok(row) if row.ports[0].leader.present == 0 => println!("frame {}: port {}, absent", row.id, row.ports[0].port),
 			Ok(row) => {
 				let post = row.ports[0].leader.post;

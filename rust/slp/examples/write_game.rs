@@ -2,10 +2,10 @@
 //!
 //!     cargo run --example write_game game.slp
 
-use slp::{columns, Counts, End, Game, Optional, PortColumn, Stores, Version};
+use slp::{columns, Counts, End, Game, Optional, PortColumn, Refused, Stores, Version};
 
 /// No frames, no end, at version 0.1.0.
-fn smallest(out: &mut [u8]) -> Result<usize, u8> {
+fn smallest(out: &mut [u8]) -> Result<usize, Refused> {
 	let mut game = Game::default();
 	game.frames.version = Version { major: 0, minor: 1, patch: 0 };
 	let stores = Stores { template_block: &[0; 320], ..Default::default() };
@@ -13,7 +13,7 @@ fn smallest(out: &mut [u8]) -> Result<usize, u8> {
 }
 
 /// One frame of one player at 3.18.0, and an end. All cells are zero; a real game fills them column by column.
-fn one_frame(out: &mut [u8]) -> Result<usize, u8> {
+fn one_frame(out: &mut [u8]) -> Result<usize, Refused> {
 	let given = Optional { given: 1, value: 0 };
 	let mut game = Game { end: End { given: 1, method: 2, initiator: 255, ..Default::default() }, ..Default::default() };
 	game.frames.version = Version { major: 3, minor: 18, patch: 0 };
@@ -38,10 +38,10 @@ fn one_frame(out: &mut [u8]) -> Result<usize, u8> {
 	slp::write(&game, &stores, out)
 }
 
-fn say(version: &str, written: Result<usize, u8>) {
+fn say(version: &str, written: Result<usize, Refused>) {
 	match written {
 		Ok(len) => println!("{version}: refused 0, {len} bytes"),
-		Err(number) => println!("{version}: refused {number}, {}", slp::refusal_words(number)),
+		Err(refused) => println!("{version}: {refused}"),
 	}
 }
 

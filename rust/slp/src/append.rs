@@ -5,6 +5,7 @@ use std::ops::Range;
 use crate::{
 	game::Frames,
 	raw::{with_stores, Appended},
+	refusals::{accepted, Refused},
 	stores::Stores,
 };
 
@@ -12,7 +13,7 @@ use crate::{
 /// the refusal: 1 to 7, then 13 for a range that is reversed or ends beyond the frames, then 12, also for a place beyond `out`. Bytes before the place and
 /// from the end place on stay. Of the stores those up to `presence` are looked at, and all of these are judged: a recorder lends the frames that it has
 /// finished since the last call as a small game of their own.
-pub fn write_frames(frames: &Frames, stores: &Stores, out: &mut [u8], place: usize, range: Range<usize>) -> Result<usize, u8> {
+pub fn write_frames(frames: &Frames, stores: &Stores, out: &mut [u8], place: usize, range: Range<usize>) -> Result<usize, Refused> {
 	// SAFETY: every pointer comes with the length of its slice, `out` is borrowed alone, and the call keeps nothing.
 	let appended =
 		unsafe { with_stores!(slp_write_frames, stores, [out.as_mut_ptr(), out.len(), place, *frames], [range.start, range.end]) };
@@ -20,15 +21,12 @@ pub fn write_frames(frames: &Frames, stores: &Stores, out: &mut [u8], place: usi
 }
 
 /// The same for frame `index` alone.
-pub fn write_frame(frames: &Frames, stores: &Stores, out: &mut [u8], place: usize, index: usize) -> Result<usize, u8> {
+pub fn write_frame(frames: &Frames, stores: &Stores, out: &mut [u8], place: usize, index: usize) -> Result<usize, Refused> {
 	// SAFETY: as above.
 	let appended = unsafe { with_stores!(slp_write_frame, stores, [out.as_mut_ptr(), out.len(), place, *frames], [index]) };
 	end_of(appended)
 }
 
-pub(crate) fn end_of(appended: Appended) -> Result<usize, u8> {
-	match appended.refused {
-		0 => Ok(appended.end),
-		number => Err(number),
-	}
+pub(crate) fn end_of(appended: Appended) -> Result<usize, Refused> {
+	accepted(appended.refused, appended.end)
 }

@@ -1,6 +1,6 @@
 //! Whether a file is sound.
 
-use crate::{raw, reader::Refused};
+use crate::{raw, refusals::Refused};
 
 /// Whether a file is sound, whoever wrote it: all of its event data is there; the payload table is the version's; every event stands in its place, with
 /// ports in any order; code blocks, ports and follower flags are right; there are at most two ends; and behind the event data stands a closing brace, or

@@ -1,6 +1,11 @@
 //! Final frames only.
 
-use crate::{game::Game, raw::with_stores, stores::Stores};
+use crate::{
+	game::Game,
+	raw::with_stores,
+	refusals::{accepted, Refused},
+	stores::Stores,
+};
 
 /// Writes the replay of the final frames, of each frame id the last row, to the start of `out` and answers with its length: the file that
 /// [`write`](crate::write) gives for these rows by themselves. `scratch` needs a byte a frame and then begins with the mask of
@@ -18,7 +23,7 @@ use crate::{game::Game, raw::with_stores, stores::Stores};
 /// assert_eq!(slp::write_final(&game, &stores, &mut file, &mut scratch), Ok(537));
 /// assert_eq!(scratch, [1, 0, 0]);
 /// ```
-pub fn write_final(game: &Game, stores: &Stores, out: &mut [u8], scratch: &mut [u8]) -> Result<usize, u8> {
+pub fn write_final(game: &Game, stores: &Stores, out: &mut [u8], scratch: &mut [u8]) -> Result<usize, Refused> {
 	let (block, codes, metadata) = (stores.template_block, stores.codes, stores.metadata);
 	// SAFETY: every pointer comes with the length of its slice, `out` and `scratch` are borrowed alone, and the call keeps nothing.
 	let written = unsafe {
@@ -29,8 +34,5 @@ pub fn write_final(game: &Game, stores: &Stores, out: &mut [u8], scratch: &mut [
 			[block.as_ptr(), block.len(), codes.as_ptr(), codes.len(), metadata.as_ptr(), metadata.len()]
 		)
 	};
-	match written.refused {
-		0 => Ok(written.len),
-		number => Err(number),
-	}
+	accepted(written.refused, written.len)
 }

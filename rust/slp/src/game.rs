@@ -5,8 +5,11 @@
 #[repr(C)]
 #[derive(Clone, Copy, Debug, Default, PartialEq, Eq)]
 pub struct Version {
+	/// the first number
 	pub major: u8,
+	/// the second number
 	pub minor: u8,
+	/// the third number
 	pub patch: u8,
 }
 
@@ -14,10 +17,15 @@ pub struct Version {
 #[repr(C)]
 #[derive(Clone, Copy, Debug, Default, PartialEq, Eq)]
 pub struct Counts {
+	/// frames
 	pub frames: usize,
+	/// rows of items
 	pub items: usize,
+	/// rows of the platforms of Fountain of Dreams
 	pub fods: usize,
+	/// rows of Dreamland's wind
 	pub whispys: usize,
+	/// rows of Pokemon Stadium's transformations
 	pub stadiums: usize,
 }
 
@@ -26,10 +34,13 @@ pub struct Counts {
 #[repr(C)]
 #[derive(Clone, Copy, Debug, Default, PartialEq, Eq)]
 pub struct PortColumn {
+	/// 0 to 3
 	pub port: u8,
 	/// a mark
 	pub follower: u8,
+	/// presence bytes of the leader
 	pub leader_presence: usize,
+	/// presence bytes of the follower
 	pub follower_presence: usize,
 }
 
@@ -37,9 +48,13 @@ pub struct PortColumn {
 #[repr(C)]
 #[derive(Clone, Copy, Debug, Default, PartialEq, Eq)]
 pub struct Frames {
+	/// the replay's version
 	pub version: Version,
+	/// how many rows the families have
 	pub counts: Counts,
+	/// the port columns; those past `port_count` are not looked at
 	pub ports: [PortColumn; 4],
+	/// how many port columns there are
 	pub port_count: usize,
 }
 
@@ -47,7 +62,9 @@ pub struct Frames {
 #[repr(C)]
 #[derive(Clone, Copy, Debug, PartialEq, Eq)]
 pub struct Text {
+	/// its bytes, of which the first `len` count
 	pub bytes: [u8; 50],
+	/// how many bytes it has
 	pub len: usize,
 }
 
@@ -78,6 +95,7 @@ impl Text {
 pub struct Optional {
 	/// a mark
 	pub given: u8,
+	/// the number
 	pub value: u8,
 }
 
@@ -87,7 +105,9 @@ pub struct Optional {
 pub struct Team {
 	/// a mark
 	pub given: u8,
+	/// the team's colour
 	pub color: u8,
+	/// the shade of this player's
 	pub shade: u8,
 }
 
@@ -97,7 +117,9 @@ pub struct Team {
 pub struct Ucf {
 	/// a mark
 	pub given: u8,
+	/// what is done about dashing back
 	pub dash_back: u32,
+	/// what is done about dropping through platforms behind a shield
 	pub shield_drop: u32,
 }
 
@@ -107,10 +129,13 @@ pub struct Ucf {
 pub struct Netplay {
 	/// a mark, for name and code
 	pub given: u8,
+	/// what the player is called
 	pub name: Text,
+	/// the connect code
 	pub code: Text,
 	/// a mark
 	pub suid_given: u8,
+	/// the user id
 	pub suid: Text,
 }
 
@@ -120,25 +145,39 @@ pub struct Netplay {
 pub struct Seat {
 	/// a mark
 	pub given: u8,
+	/// the character's number
 	pub character: u8,
 	/// 0 human, 1 CPU, 2 demo
 	pub kind: u8,
+	/// how many stocks the player begins with
 	pub stocks: u8,
+	/// the costume's number
 	pub costume: u8,
+	/// the team
 	pub team: Team,
+	/// the handicap
 	pub handicap: u8,
+	/// the player's flags, as in the file
 	pub bitfield: u8,
+	/// a CPU's level
 	pub cpu_level: Optional,
+	/// the damage at the start
 	pub damage_start: u16,
+	/// the damage after a lost stock
 	pub damage_spawn: u16,
+	/// how hard the player hits, a float by its bits
 	pub offense_ratio: u32,
+	/// how well the player withstands, a float by its bits
 	pub defense_ratio: u32,
+	/// the size, a float by its bits
 	pub model_scale: u32,
+	/// the controller fix
 	pub ucf: Ucf,
 	/// a mark
 	pub name_tag_given: u8,
 	/// at most 16 bytes (from 1.3)
 	pub name_tag: Text,
+	/// who plays, online
 	pub netplay: Netplay,
 }
 
@@ -148,7 +187,9 @@ pub struct Seat {
 pub struct Scene {
 	/// a mark
 	pub given: u8,
+	/// the minor number
 	pub minor: u8,
+	/// the major number
 	pub major: u8,
 }
 
@@ -157,8 +198,10 @@ pub struct Scene {
 #[repr(u8)]
 #[derive(Clone, Copy, Debug, Default, PartialEq, Eq)]
 pub enum MatchTail {
+	/// zeros
 	#[default]
 	Cleared = 0,
+	/// what the template has
 	Kept = 1,
 }
 
@@ -168,10 +211,13 @@ pub enum MatchTail {
 pub struct Match {
 	/// a mark
 	pub given: u8,
+	/// what stands after the zero that ends the id
 	pub tail: MatchTail,
 	/// at most 50 bytes
 	pub id: Text,
+	/// the game's number in the match
 	pub game: u32,
+	/// the tiebreaker's number
 	pub tiebreaker: u32,
 }
 
@@ -179,21 +225,37 @@ pub struct Match {
 #[repr(C)]
 #[derive(Clone, Copy, Debug, Default, PartialEq, Eq)]
 pub struct Start {
+	/// the game's flags, as in the file
 	pub bitfield: [u8; 4],
+	/// a mark
 	pub is_raining_bombs: u8,
+	/// a mark
 	pub is_teams: u8,
+	/// how often items come
 	pub item_spawn_frequency: u8,
+	/// what a self-destruct counts
 	pub self_destruct_score: u8,
+	/// the stage's number
 	pub stage: u16,
+	/// the time
 	pub timer: u32,
+	/// which items come, a bit for each
 	pub item_spawn_bitfield: [u8; 5],
+	/// how much damage counts, a float by its bits
 	pub damage_ratio: u32,
+	/// the players by their ports
 	pub seats: [Seat; 4],
+	/// the seed of the game's random numbers
 	pub random_seed: u32,
+	/// whether it is the European version
 	pub is_pal: Optional,
+	/// whether Pokemon Stadium's transformations are off
 	pub is_frozen_ps: Optional,
+	/// the scene
 	pub scene: Scene,
+	/// the language's number
 	pub language: Optional,
+	/// the match that the game belongs to
 	pub match_info: Match,
 }
 
@@ -203,11 +265,13 @@ pub struct Start {
 pub struct End {
 	/// a mark
 	pub given: u8,
+	/// how, by number
 	pub method: u8,
 	/// 0 to 3, or 255 for none
 	pub initiator: u8,
 	/// marks: a port without one gets 255 as its placement
 	pub placed: [u8; 4],
+	/// the ports' placements
 	pub placements: [u8; 4],
 }
 
@@ -215,8 +279,11 @@ pub struct End {
 #[repr(C)]
 #[derive(Clone, Copy, Debug, Default, PartialEq, Eq)]
 pub struct Game {
+	/// what is said of its frames
 	pub frames: Frames,
+	/// what the start block says
 	pub start: Start,
+	/// how it ended
 	pub end: End,
 	/// a mark: GameEnd is written twice
 	pub double_end: u8,

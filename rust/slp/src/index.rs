@@ -1,6 +1,9 @@
 //! The index of a replay, and frames looked up in it.
 
-use crate::{raw, reader::Refused};
+use crate::{
+	raw,
+	refusals::{accepted, Refused},
+};
 
 /// Where a frame stands in a replay.
 #[derive(Clone, Copy, Debug, PartialEq, Eq)]
@@ -9,6 +12,7 @@ pub struct Moment {
 	pub row: usize,
 	/// where its FrameStart stands in the replay
 	pub offset: u32,
+	/// its frame id
 	pub id: i32,
 }
 
@@ -56,17 +60,14 @@ pub fn accepts_index(file: &[u8], index: &[u8]) -> Result<(), Refused> {
 ///
 /// ```
 /// // No frames: a mark, a version, and a count of 0.
-/// assert_eq!(slp::find_frame(b"SPX\0\x01\0\0\0\0", 7), Err(27));
+/// assert_eq!(slp::find_frame(b"SPX\0\x01\0\0\0\0", 7), Err(27.into()));
 /// // Frame 7 stands at byte 808.
 /// let index = b"SPX\0\x01\0\0\0\x01\0\0\0\x07\0\0\x03\x28";
 /// assert_eq!(slp::find_frame(index, 7), Ok(slp::Moment { row: 0, offset: 808, id: 7 }));
-/// assert_eq!(slp::find_frame(&index[..16], 7), Err(25));
+/// assert_eq!(slp::find_frame(&index[..16], 7), Err(25.into()));
 /// ```
-pub fn find_frame(index: &[u8], id: i32) -> Result<Moment, u8> {
+pub fn find_frame(index: &[u8], id: i32) -> Result<Moment, Refused> {
 	// SAFETY: the pointer comes with the length of its slice, and the call keeps nothing.
 	let m = unsafe { raw::slp_find_frame(index.as_ptr(), index.len(), id) };
-	match m.refused {
-		0 => Ok(Moment { row: m.row, offset: m.offset, id: m.id }),
-		number => Err(number),
-	}
+	accepted(m.refused, Moment { row: m.row, offset: m.offset, id: m.id })
 }

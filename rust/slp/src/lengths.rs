@@ -4,20 +4,35 @@
 #[repr(C)]
 #[derive(Clone, Copy, Debug, Default, PartialEq, Eq)]
 pub struct Lengths {
+	/// cells of `ids`
 	pub ids: usize,
+	/// cells of `starts`
 	pub starts: usize,
+	/// cells of `pres`
 	pub pres: usize,
+	/// cells of `posts`
 	pub posts: usize,
+	/// cells of `ends`
 	pub ends: usize,
+	/// cells of `items`
 	pub items: usize,
+	/// cells of `fods`
 	pub fods: usize,
+	/// cells of `whispys`
 	pub whispys: usize,
+	/// cells of `stadiums`
 	pub stadiums: usize,
+	/// cells of `item_offsets`
 	pub item_offsets: usize,
+	/// cells of `fod_offsets`
 	pub fod_offsets: usize,
+	/// cells of `whispy_offsets`
 	pub whispy_offsets: usize,
+	/// cells of `stadium_offsets`
 	pub stadium_offsets: usize,
+	/// bytes of `presence`
 	pub presence: usize,
+	/// bytes of `codes`
 	pub codes: usize,
 }
 
@@ -25,9 +40,12 @@ pub struct Lengths {
 #[repr(u8)]
 #[derive(Clone, Copy, Debug, Default, PartialEq, Eq)]
 pub enum Tail {
+	/// one brace
 	#[default]
 	None = 0,
+	/// the metadata
 	Metadata = 1,
+	/// something else
 	Odd = 2,
 }
 
@@ -35,11 +53,15 @@ pub enum Tail {
 #[repr(C)]
 #[derive(Clone, Copy, Debug, Default, PartialEq, Eq)]
 pub struct Places {
+	/// where the start block stands
 	pub block_at: usize,
+	/// how long it is
 	pub block_len: usize,
+	/// what stands behind the event data
 	pub tail: Tail,
 	/// 0 where there is no metadata
 	pub metadata_at: usize,
+	/// how long it is
 	pub metadata_len: usize,
 }
 

@@ -1,8 +1,8 @@
 //! Slippi replays, written and read: safe calls to `libslp.a`.
 //!
 //! Every call takes every input, allocates nothing ([`write_map`] and [`read_map`] do, for a [`Map`] and its entries, and [`read`] for a [`Replay`]
-//! and its columns, and [`index`] for its bytes) and answers with a refusal number ([`refusal_words`] says why) or its result. A refused call changes no byte of the slices that
-//! are lent to it. Set `SLP_LIB_DIR` to the directory of `libslp.a` when you build.
+//! and its columns, and [`index`] for its bytes) and answers with its result or with a refusal, which is an error with a number, words and a place
+//! ([`Refused`]). A refused call changes no byte of the slices that are lent to it. Set `SLP_LIB_DIR` to the directory of `libslp.a` when you build.
 //!
 //! ```
 //! // A game of version 0.1.0 without frames and without an end: the start block alone.
@@ -20,8 +20,10 @@
 //! assert!(!slp::walk(&file[..349]).unwrap().whole);
 //! // A block that is too short is refused with number 8.
 //! let short = slp::Stores { template_block: &[0; 319], ..Default::default() };
-//! assert_eq!(slp::write(&game, &short, &mut file), Err(8));
+//! assert_eq!(slp::write(&game, &short, &mut file), Err(slp::Refused::from(8)));
 //! ```
+
+#![deny(missing_docs)]
 
 // Each of these uses those before it alone.
 mod game;
@@ -44,9 +46,11 @@ pub mod rows;
 mod write;
 
 mod check;
-mod live;
 mod index;
+mod live;
 mod read;
+
+mod views;
 
 pub use append::{write_frame, write_frames};
 pub use check::check;
@@ -57,11 +61,17 @@ pub use index::{accepts_index, find_frame, index, index_len, write_index, Moment
 pub use lengths::{Lengths, Places, Tail};
 pub use live::{length_field, write_end, write_head, Closed};
 pub use masks::{rollbacks, scratch_len, Rollbacks};
-pub use metadata::{read_entries, read_map, write_entries, write_map, BadBody, Entries, Map, Value, MAX_BODY};
+pub use metadata::{read_entries, read_map, write_entries, write_map, Entries, Map, Value, MAX_BODY};
 pub use plan::Plan;
 pub use read::{measure, read, read_into, Measured, Replay, Space};
-pub use reader::{first_place, step_at, walk, Refused, Step, Walked};
-pub use refusals::refusal_words;
+pub use reader::{first_place, step_at, walk, Step, Walked};
+pub use refusals::{refusal_words, Refused};
 pub use room::{room, MAX_ROOM};
 pub use stores::Stores;
+pub use views::Player;
 pub use write::write;
+
+/// The examples of README.md, which run with the tests.
+#[cfg(doctest)]
+#[doc = include_str!("../README.md")]
+struct Readme;

@@ -1,11 +1,16 @@
 //! The rollback masks.
 
-use crate::raw;
+use crate::{
+	raw,
+	refusals::{accepted, Refused},
+};
 
 /// Which frame of an id a mask leaves at 0.
 #[derive(Clone, Copy, Debug, PartialEq, Eq)]
 pub enum Rollbacks {
+	/// the first
 	ExceptFirst = 0,
+	/// the last
 	ExceptLast = 1,
 }
 
@@ -22,13 +27,10 @@ pub fn scratch_len(ids: &[u32]) -> usize {
 /// assert_eq!(slp::rollbacks(&ids, slp::Rollbacks::ExceptFirst, &mut mask, &mut scratch), Ok(()));
 /// assert_eq!(mask, [0, 0, 1, 0]);
 /// ```
-pub fn rollbacks(ids: &[u32], keep: Rollbacks, mask: &mut [u8], scratch: &mut [u8]) -> Result<(), u8> {
+pub fn rollbacks(ids: &[u32], keep: Rollbacks, mask: &mut [u8], scratch: &mut [u8]) -> Result<(), Refused> {
 	// SAFETY: every pointer comes with the length of its slice, the written slices are borrowed alone, and the call keeps nothing.
 	let refused = unsafe {
 		raw::slp_rollbacks(ids.as_ptr(), ids.len(), keep as u8, mask.as_mut_ptr(), mask.len(), scratch.as_mut_ptr(), scratch.len())
 	};
-	match refused {
-		0 => Ok(()),
-		number => Err(number),
-	}
+	accepted(refused, ())
 }

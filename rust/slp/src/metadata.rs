@@ -1,25 +1,24 @@
 //! The metadata map: the body of an encoded map, written from entries and read back into them.
 
-use crate::raw;
+use crate::{
+	raw,
+	refusals::{accepted, Refused},
+};
 
 /// A value of a [`Map`]: a text of at most 255 bytes, a number, or a map.
 #[derive(Clone, Debug, PartialEq, Eq)]
 pub enum Value {
+	/// a text
 	Text(Vec<u8>),
+	/// a number
 	Number(i32),
+	/// a map
 	Map(Map),
 }
 
 /// A metadata map: entries of a key and a value, in their order.
 #[derive(Clone, Debug, Default, PartialEq, Eq)]
 pub struct Map(pub Vec<(Vec<u8>, Value)>);
-
-/// The refusal of a body, 20 to 23 or 2, and the first wrong place in it, 0 where none is named.
-#[derive(Clone, Copy, Debug, PartialEq, Eq)]
-pub struct BadBody {
-	pub number: u8,
-	pub place: usize,
-}
 
 /// What a body holds at most: refused with 2 beyond.
 pub const MAX_BODY: usize = 65_535;
@@ -79,37 +78,36 @@ impl Flat {
 /// assert_eq!(&body[..len], b"U\x09lastFramel\xff\xff\xff\xc0U\x07players{}");
 /// assert_eq!(slp::read_map(&body[..len]), Ok(map));
 /// ```
-pub fn write_map(map: &Map, out: &mut [u8]) -> Result<usize, u8> {
+pub fn write_map(map: &Map, out: &mut [u8]) -> Result<usize, Refused> {
 	let mut flat = Flat::default();
 	flat.map(map);
 	write_entries(&flat.cells, &flat.texts, map.0.len(), out)
 }
 
 /// The same from entries as slp.h has them: five cells each, with their keys and texts in `texts`. Entries that are no map are refused with 23.
-pub fn write_entries(cells: &[u32], texts: &[u8], count: usize, out: &mut [u8]) -> Result<usize, u8> {
+pub fn write_entries(cells: &[u32], texts: &[u8], count: usize, out: &mut [u8]) -> Result<usize, Refused> {
 	// SAFETY: every pointer comes with the length of its slice, `out` is borrowed alone, and the call keeps nothing.
 	let written =
 		unsafe { raw::slp_write_map(out.as_mut_ptr(), out.len(), cells.as_ptr(), cells.len(), texts.as_ptr(), texts.len(), count) };
-	match written.refused {
-		0 => Ok(written.len),
-		number => Err(number),
-	}
+	accepted(written.refused, written.len)
 }
 
 /// How many entries a body has: its map itself, and in all.
 #[derive(Clone, Copy, Debug, PartialEq, Eq)]
 pub struct Entries {
+	/// those of the map itself
 	pub count: usize,
+	/// those inside its maps too
 	pub all: usize,
 }
 
 /// Reads a body into cells, five an entry, whose texts stand in the body. Also refused with 12, for too few cells. Cells past the entries stay.
-pub fn read_entries(body: &[u8], cells: &mut [u32]) -> Result<Entries, BadBody> {
+pub fn read_entries(body: &[u8], cells: &mut [u32]) -> Result<Entries, Refused> {
 	// SAFETY: every pointer comes with the length of its slice, `cells` is borrowed alone, and the call keeps nothing.
 	let read = unsafe { raw::slp_read_map(body.as_ptr(), body.len(), cells.as_mut_ptr(), cells.len()) };
 	match read.refused {
 		0 => Ok(Entries { count: read.count, all: read.entries }),
-		number => Err(BadBody { number, place: read.place }),
+		number => Err(Refused { number, offset: read.place }),
 	}
 }
 
@@ -118,9 +116,9 @@ pub fn read_entries(body: &[u8], cells: &mut [u32]) -> Result<Entries, BadBody> 
 /// ```
 /// // a key twice: at the second
 /// let body = b"U\x01al\0\0\0\0U\x01al\0\0\0\0";
-/// assert_eq!(slp::read_map(body), Err(slp::BadBody { number: 22, place: 8 }));
+/// assert_eq!(slp::read_map(body), Err(slp::Refused { number: 22, offset: 8 }));
 /// ```
-pub fn read_map(body: &[u8]) -> Result<Map, BadBody> {
+pub fn read_map(body: &[u8]) -> Result<Map, Refused> {
 	// An entry takes at least four bytes. A longer body is refused whatever room there is.
 	let mut cells = vec![0; 5 * (body.len().min(MAX_BODY) / 4 + 1)];
 	let entries = read_entries(body, &mut cells)?;

@@ -9,11 +9,13 @@ use crate::{
 #[repr(C)]
 #[derive(Clone, Copy, Debug, Default, PartialEq, Eq)]
 pub struct Plan {
+	/// the replay's version
 	pub version: Version,
 	/// bytes of the start block
 	pub block: usize,
 	/// players, followers among them: at most eight
 	pub slots: usize,
+	/// rows of the families
 	pub counts: Counts,
 	/// bytes of the padded codes
 	pub codes: usize,

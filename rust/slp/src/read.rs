@@ -6,7 +6,7 @@ use crate::{
 	lengths::{Lengths, Places, Tail},
 	plan::Plan,
 	raw,
-	reader::Refused,
+	refusals::Refused,
 	room::room,
 	stores::Stores,
 	write::write,
@@ -15,12 +15,15 @@ use crate::{
 /// What [`read_into`] will need for a replay, and give.
 #[derive(Clone, Copy, Debug, PartialEq, Eq)]
 pub struct Measured {
+	/// what is said of the frames
 	pub frames: Frames,
 	/// whether the version is 3.3 or newer and the payload table lists GeckoCodes
 	pub codes_given: bool,
 	/// bytes of the codes before they were padded
 	pub actual_size: u32,
+	/// how long each store must be
 	pub lengths: Lengths,
+	/// where the start block and the metadata stand
 	pub places: Places,
 }
 
@@ -44,20 +47,35 @@ pub fn measure(file: &[u8]) -> Result<Measured, Refused> {
 /// Stores to be filled by [`read_into`].
 #[derive(Debug, Default)]
 pub struct Space<'a> {
+	/// as `ids` of [`Stores`]
 	pub ids: &'a mut [u32],
+	/// as `starts` of [`Stores`]
 	pub starts: &'a mut [u32],
+	/// as `pres` of [`Stores`]
 	pub pres: &'a mut [u32],
+	/// as `posts` of [`Stores`]
 	pub posts: &'a mut [u32],
+	/// as `ends` of [`Stores`]
 	pub ends: &'a mut [u32],
+	/// as `items` of [`Stores`]
 	pub items: &'a mut [u32],
+	/// as `fods` of [`Stores`]
 	pub fods: &'a mut [u32],
+	/// as `whispys` of [`Stores`]
 	pub whispys: &'a mut [u32],
+	/// as `stadiums` of [`Stores`]
 	pub stadiums: &'a mut [u32],
+	/// as `item_offsets` of [`Stores`]
 	pub item_offsets: &'a mut [u32],
+	/// as `fod_offsets` of [`Stores`]
 	pub fod_offsets: &'a mut [u32],
+	/// as `whispy_offsets` of [`Stores`]
 	pub whispy_offsets: &'a mut [u32],
+	/// as `stadium_offsets` of [`Stores`]
 	pub stadium_offsets: &'a mut [u32],
+	/// as `presence` of [`Stores`]
 	pub presence: &'a mut [u8],
+	/// as `codes` of [`Stores`]
 	pub codes: &'a mut [u8],
 }
 
@@ -80,21 +98,37 @@ pub fn read_into(file: &[u8], space: &mut Space) -> Result<(Game, Places), Refus
 /// A replay with columns of its own: to be looked at, changed and saved again.
 #[derive(Clone, Debug, Default, PartialEq, Eq)]
 pub struct Replay {
+	/// the game beside its columns
 	pub game: Game,
+	/// as `ids` of [`Stores`]
 	pub ids: Vec<u32>,
+	/// as `starts` of [`Stores`]
 	pub starts: Vec<u32>,
+	/// as `pres` of [`Stores`]
 	pub pres: Vec<u32>,
+	/// as `posts` of [`Stores`]
 	pub posts: Vec<u32>,
+	/// as `ends` of [`Stores`]
 	pub ends: Vec<u32>,
+	/// as `items` of [`Stores`]
 	pub items: Vec<u32>,
+	/// as `fods` of [`Stores`]
 	pub fods: Vec<u32>,
+	/// as `whispys` of [`Stores`]
 	pub whispys: Vec<u32>,
+	/// as `stadiums` of [`Stores`]
 	pub stadiums: Vec<u32>,
+	/// as `item_offsets` of [`Stores`]
 	pub item_offsets: Vec<u32>,
+	/// as `fod_offsets` of [`Stores`]
 	pub fod_offsets: Vec<u32>,
+	/// as `whispy_offsets` of [`Stores`]
 	pub whispy_offsets: Vec<u32>,
+	/// as `stadium_offsets` of [`Stores`]
 	pub stadium_offsets: Vec<u32>,
+	/// as `presence` of [`Stores`]
 	pub presence: Vec<u8>,
+	/// cheat codes, padded to blocks of 512 bytes
 	pub codes: Vec<u8>,
 	/// the start block as it stood in the file
 	pub template_block: Vec<u8>,
@@ -128,7 +162,7 @@ impl Replay {
 		with_each!(lend)
 	}
 
-	/// Its stores, as [`write`] and [`rows`](crate::rows) take them.
+	/// Its stores, as [`write`](crate::write()) and [`rows`](crate::rows) take them.
 	pub fn stores(&self) -> Stores<'_> {
 		macro_rules! lend {
 			($($store:ident)*) => { Stores { $($store: &self.$store,)* template_block: &self.template_block, metadata: &self.metadata } };
@@ -136,9 +170,9 @@ impl Replay {
 		with_each!(lend)
 	}
 
-	/// Its file, or the refusal of [`write`], which what was read and not changed does not get. A file that [`write`] gave is the same again, byte for
+	/// Its file, or the refusal of [`write`](crate::write()), which what was read and not changed does not get. A file that [`write`](crate::write()) gave is the same again, byte for
 	/// byte, if its ports ascend and the seats that were not given have type 3 in its template. An odd tail is lost.
-	pub fn save(&self) -> Result<Vec<u8>, u8> {
+	pub fn save(&self) -> Result<Vec<u8>, Refused> {
 		let stores = self.stores();
 		let mut out = vec![0; room(&Plan::of(&self.game, &stores))?];
 		let len = write(&self.game, &stores, &mut out)?;
@@ -147,7 +181,7 @@ impl Replay {
 	}
 
 	/// The file of its final frames only, and how many rows it leaves out, or the refusal of [`write_final`].
-	pub fn save_final(&self) -> Result<(Vec<u8>, usize), u8> {
+	pub fn save_final(&self) -> Result<(Vec<u8>, usize), Refused> {
 		let stores = self.stores();
 		let mut out = vec![0; room(&Plan::of(&self.game, &stores))?];
 		let mut scratch = vec![0; self.ids.len()];

@@ -1,21 +1,23 @@
 //! The reader of whole and cut files.
 
-use crate::raw;
-
-/// A reader's refusal: 14 to 17 with the file offset that they name; from [`read`](crate::read) also 1, 2, 12 and 19, from [`check`](crate::check)
-/// 1, 19 and 23, and from the calls
-/// of an [`index`](crate::write_index) 2, 12 and 24 to 26, with offset 0.
-#[derive(Clone, Copy, Debug, PartialEq, Eq)]
-pub struct Refused {
-	pub number: u8,
-	pub offset: usize,
-}
+use crate::{raw, refusals::Refused};
 
 /// What stands at a place of a replay.
 #[derive(Clone, Copy, Debug, PartialEq, Eq)]
 pub enum Step {
-	/// An event: its code, where it stands, where its payload begins, the payload's length and the place after it.
-	Event { code: u8, at: usize, payload: usize, len: usize, next: usize },
+	/// An event.
+	Event {
+		/// its code
+		code: u8,
+		/// where it stands
+		at: usize,
+		/// where its payload begins
+		payload: usize,
+		/// the payload's length
+		len: usize,
+		/// the place after it
+		next: usize,
+	},
 	/// The event data ends here.
 	Ends,
 	/// An event that is cut, or the end of event data that is.

@@ -1,6 +1,10 @@
 //! How much room to reserve.
 
-use crate::{plan::Plan, raw};
+use crate::{
+	plan::Plan,
+	raw,
+	refusals::{accepted, Refused},
+};
 
 /// The largest answer of [`room`].
 pub const MAX_ROOM: usize = 1_530_167_375;
@@ -17,13 +21,10 @@ pub const MAX_ROOM: usize = 1_530_167_375;
 /// let counts = slp::Counts { frames: 28_800, items: 20_000, ..Default::default() };
 /// let plan = slp::Plan { version, block: 760, slots: 2, counts, ..Default::default() };
 /// assert_eq!(slp::room(&plan), Ok(10_289_641));
-/// assert_eq!(slp::room(&slp::Plan { slots: 9, ..plan }), Err(7));
+/// assert_eq!(slp::room(&slp::Plan { slots: 9, ..plan }), Err(slp::Refused::from(7)));
 /// ```
-pub fn room(plan: &Plan) -> Result<usize, u8> {
+pub fn room(plan: &Plan) -> Result<usize, Refused> {
 	// SAFETY: the call takes every number and touches no memory of ours.
 	let reserved = unsafe { raw::slp_room(*plan) };
-	match reserved.refused {
-		0 => Ok(reserved.bytes),
-		number => Err(number),
-	}
+	accepted(reserved.refused, reserved.bytes)
 }

@@ -18,7 +18,7 @@
 //! assert_eq!((row.ports[0].leader.present, row.ports[0].follower.present), (1, 0));
 //! assert_eq!(slp::rows::post_row(&frames, &stores, 0, 0).unwrap(), row.ports[0].leader.post);
 //! // There is no second frame.
-//! assert_eq!(slp::rows::frame_row(&frames, &stores, 1), Err(13));
+//! assert_eq!(slp::rows::frame_row(&frames, &stores, 1), Err(slp::Refused::from(13)));
 //!
 //! // The same Post by way of its cells, with the mark behind them: for many rows, which are judged once.
 //! let mut cells = [0; 12];
@@ -33,21 +33,19 @@ use crate::{
 	columns::Family,
 	game::{Frames, Version},
 	raw,
+	refusals::{accepted, Refused},
 	stores::Stores,
 };
 
 /// A row's answer: the row, or its refusal, 1 to 7 as for [`crate::write`], or 13 where there is no such frame, row or slot.
-fn answer<T>(answer: raw::Answer<T>) -> Result<T, u8> {
-	match answer.refused {
-		0 => Ok(answer.row),
-		number => Err(number),
-	}
+fn answer<T>(answer: raw::Answer<T>) -> Result<T, Refused> {
+	accepted(answer.refused, answer.row)
 }
 
 macro_rules! row {
 	($(#[$doc:meta])* $name:ident, $call:ident, $row:ty, $($number:ident),*) => {
 		$(#[$doc])*
-		pub fn $name(frames: &Frames, stores: &Stores, $($number: usize),*) -> Result<$row, u8> {
+		pub fn $name(frames: &Frames, stores: &Stores, $($number: usize),*) -> Result<$row, Refused> {
 			// SAFETY: every pointer comes with the length of its slice, and the call keeps nothing.
 			answer(unsafe { raw::with_stores!($call, stores, [*frames], [$($number),*]) })
 		}
@@ -86,14 +84,11 @@ row!(
 /// Rows `rows` of a family and slot as cells, row after row, at the start of `out`; cells past them stay. A row is its cells in the order of the
 /// columns, and for Pre and Post the mark behind them, 1 or 0: [`Family::row_cells`] in all. Families without players have slot 0. All stores are
 /// judged, once. Answers how many cells were put, or 1 to 7, then 13 where there is no such slot or range, then 12.
-pub fn run(frames: &Frames, stores: &Stores, family: Family, slot: usize, rows: Rows<usize>, out: &mut [u32]) -> Result<usize, u8> {
+pub fn run(frames: &Frames, stores: &Stores, family: Family, slot: usize, rows: Rows<usize>, out: &mut [u32]) -> Result<usize, Refused> {
 	let (cells, len, number) = (out.as_mut_ptr(), out.len(), family as u8);
 	// SAFETY: every pointer comes with the length of its slice, `out` is borrowed alone, and the call keeps nothing.
 	let run = unsafe { raw::with_stores!(slp_rows, stores, [cells, len, *frames], [number, slot, rows.start, rows.end]) };
-	match run.refused {
-		0 => Ok(run.len),
-		number => Err(number),
-	}
+	accepted(run.refused, run.len)
 }
 
 macro_rules! row_of {

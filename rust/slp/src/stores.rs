@@ -13,14 +13,21 @@ pub struct Stores<'a> {
 	pub posts: &'a [u32],
 	/// FrameEnd, a row a frame
 	pub ends: &'a [u32],
+	/// the items of all frames
 	pub items: &'a [u32],
+	/// the moves of platforms
 	pub fods: &'a [u32],
+	/// the winds
 	pub whispys: &'a [u32],
+	/// the transformations
 	pub stadiums: &'a [u32],
 	/// frames + 1 numbers, or none before the family's version; so the three below
 	pub item_offsets: &'a [u32],
+	/// as `item_offsets`
 	pub fod_offsets: &'a [u32],
+	/// as `item_offsets`
 	pub whispy_offsets: &'a [u32],
+	/// as `item_offsets`
 	pub stadium_offsets: &'a [u32],
 	/// the slots' presence bytes one after another; bit i % 8 of byte i / 8, lowest first
 	pub presence: &'a [u8],

@@ -1,9 +1,14 @@
 //! The writer.
 
-use crate::{game::Game, raw::with_stores, stores::Stores};
+use crate::{
+	game::Game,
+	raw::with_stores,
+	refusals::{accepted, Refused},
+	stores::Stores,
+};
 
 /// Writes the replay file of a game to the start of `out` and answers with its length, or with the refusal, 1 to 12. Bytes past the file stay.
-pub fn write(game: &Game, stores: &Stores, out: &mut [u8]) -> Result<usize, u8> {
+pub fn write(game: &Game, stores: &Stores, out: &mut [u8]) -> Result<usize, Refused> {
 	let (block, codes, metadata) = (stores.template_block, stores.codes, stores.metadata);
 	// SAFETY: every pointer comes with the length of its slice, `out` is borrowed alone, and the call keeps nothing.
 	let written = unsafe {
@@ -14,8 +19,5 @@ pub fn write(game: &Game, stores: &Stores, out: &mut [u8]) -> Result<usize, u8> 
 			[block.as_ptr(), block.len(), codes.as_ptr(), codes.len(), metadata.as_ptr(), metadata.len()]
 		)
 	};
-	match written.refused {
-		0 => Ok(written.len),
-		number => Err(number),
-	}
+	accepted(written.refused, written.len)
 }

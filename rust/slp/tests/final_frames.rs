@@ -57,9 +57,9 @@ fn what_is_refused_changes_nothing() {
 	let len = kept().write().unwrap().len();
 	let refused = |made: &Made, room: usize, rows: usize| {
 		let (mut out, mut scratch) = (vec![0xee; room], vec![0xee; rows]);
-		let number = slp::write_final(&made.game, &made.stores(), &mut out, &mut scratch).unwrap_err();
+		let refused = slp::write_final(&made.game, &made.stores(), &mut out, &mut scratch).unwrap_err();
 		assert!(out.iter().chain(&scratch).all(|&byte| byte == 0xee));
-		number
+		refused.number
 	};
 	assert_eq!(refused(&made, len - 1, FRAMES), 12);
 	assert_eq!(refused(&made, len, FRAMES - 1), 12);

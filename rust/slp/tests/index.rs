@@ -46,9 +46,9 @@ fn the_last_row_of_an_id_is_found() {
 	let (index, starts) = (slp::index(&file).unwrap(), frame_starts(&file));
 	assert_eq!(slp::find_frame(&index, -122), Ok(Moment { row: 2, offset: starts[2], id: -122 }));
 	assert_eq!(slp::find_frame(&index, -123), Ok(Moment { row: 0, offset: starts[0], id: -123 }));
-	assert_eq!(slp::find_frame(&index, 0), Err(27));
-	assert_eq!(slp::find_frame(&index[1..], -122), Err(25));
-	assert_eq!(slp::find_frame(&[], -122), Err(25));
+	assert_eq!(slp::find_frame(&index, 0), Err(27.into()));
+	assert_eq!(slp::find_frame(&index[1..], -122), Err(25.into()));
+	assert_eq!(slp::find_frame(&[], -122), Err(25.into()));
 }
 
 /// As many rows as FrameStarts are whole, and those of the whole file.

@@ -66,7 +66,7 @@ fn what_is_refused_changes_nothing() {
 		let mut out = vec![0xee; room];
 		let end = slp::write_end(&made.game, &stores(&made), &mut out, place).err();
 		assert!(end.is_none() || out.iter().all(|&byte| byte == 0xee));
-		(head, end)
+		(head.map(|refused| refused.number), end.map(|refused| refused.number))
 	};
 	assert_eq!(refused(|_| (), 5000, 0), (None, None));
 	assert_eq!(refused(|made| made.game.frames.version.patch = 1, 5000, 0), (Some(1), Some(1)));
@@ -85,5 +85,5 @@ fn length_fields() {
 	assert_eq!(slp::length_field(0), Ok([0; 4]));
 	assert_eq!(slp::length_field(0x0102_0304), Ok([1, 2, 3, 4]));
 	assert_eq!(slp::length_field(u32::MAX as usize), Ok([255; 4]));
-	assert_eq!(slp::length_field(u32::MAX as usize + 1), Err(2));
+	assert_eq!(slp::length_field(u32::MAX as usize + 1), Err(2.into()));
 }

@@ -1,8 +1,11 @@
 //! Both masks, their scratch and their refusals.
 
-use slp::Rollbacks::{self, ExceptFirst, ExceptLast};
+use slp::{
+	Refused,
+	Rollbacks::{self, ExceptFirst, ExceptLast},
+};
 
-fn mask(ids: &[i32], keep: Rollbacks) -> Result<Vec<u8>, u8> {
+fn mask(ids: &[i32], keep: Rollbacks) -> Result<Vec<u8>, Refused> {
 	let ids: Vec<u32> = ids.iter().map(|&id| id as u32).collect();
 	let (mut mask, mut scratch) = (vec![9; ids.len()], vec![9; slp::scratch_len(&ids)]);
 	slp::rollbacks(&ids, keep, &mut mask, &mut scratch).map(|()| mask)
@@ -27,9 +30,9 @@ fn refusals_change_nothing() {
 	let ids = [-123i32 as u32, -122i32 as u32];
 	let refused = |ids: &[u32], mask_len: usize, scratch_len: usize| {
 		let (mut mask, mut scratch) = (vec![9; mask_len], vec![9; scratch_len]);
-		let number = slp::rollbacks(ids, ExceptFirst, &mut mask, &mut scratch).unwrap_err();
-		assert!(mask.iter().chain(&scratch).all(|&byte| byte == 9), "refused {number}, and written to");
-		number
+		let refused = slp::rollbacks(ids, ExceptFirst, &mut mask, &mut scratch).unwrap_err();
+		assert!(mask.iter().chain(&scratch).all(|&byte| byte == 9), "{refused}, and written to");
+		refused.number
 	};
 	assert_eq!(refused(&ids, 1, 2), 12);
 	assert_eq!(refused(&ids, 2, 1), 12);

@@ -1,6 +1,6 @@
 //! Metadata maps: there and back, refusals with their numbers and places, and that a refused call changes nothing.
 
-use slp::{BadBody, Map, Value};
+use slp::{Map, Refused, Value};
 
 fn number(key: &str, n: i32) -> (Vec<u8>, Value) {
 	(key.into(), Value::Number(n))
@@ -16,9 +16,9 @@ fn nested(depth: usize) -> Map {
 
 fn refused(map: &Map) -> u8 {
 	let mut out = vec![0xee; 70_000];
-	let number = slp::write_map(map, &mut out).unwrap_err();
-	assert!(out.iter().all(|&byte| byte == 0xee), "refused {number}, and written to");
-	number
+	let refused = slp::write_map(map, &mut out).unwrap_err();
+	assert!(out.iter().all(|&byte| byte == 0xee), "{refused}, and written to");
+	refused.number
 }
 
 fn round(map: &Map) -> Vec<u8> {
@@ -28,7 +28,7 @@ fn round(map: &Map) -> Vec<u8> {
 	assert_eq!(slp::read_map(&out).as_ref(), Ok(map));
 	assert_eq!(slp::write_map(map, &mut vec![0; len]), Ok(len));
 	if len > 0 {
-		assert_eq!(slp::write_map(map, &mut vec![0; len - 1]), Err(12));
+		assert_eq!(slp::write_map(map, &mut vec![0; len - 1]), Err(Refused::from(12)));
 	}
 	out
 }
@@ -66,18 +66,18 @@ fn refused_maps() {
 fn entries_that_are_no_map() {
 	let write = |cells: &[u32], count| slp::write_entries(cells, b"abc", count, &mut [0; 100]);
 	assert_eq!(write(&[1, 0, 1, 7, 0], 1), Ok(8));
-	assert_eq!(write(&[1, 0, 1, 7, 0], 2), Err(23));
-	assert_eq!(write(&[1, 0, 1, 7, 0], 0), Err(23));
-	assert_eq!(write(&[3, 0, 1, 7, 0], 1), Err(23));
-	assert_eq!(write(&[1, 3, 1, 7, 0], 1), Err(23));
-	assert_eq!(write(&[0, 0, 1, 2, 2], 1), Err(23));
-	assert_eq!(write(&[2, 0, 1, u32::MAX, 0], 1), Err(23));
-	assert_eq!(write(&[1, 0, 1, 7], 1), Err(23));
+	assert_eq!(write(&[1, 0, 1, 7, 0], 2), Err(Refused::from(23)));
+	assert_eq!(write(&[1, 0, 1, 7, 0], 0), Err(Refused::from(23)));
+	assert_eq!(write(&[3, 0, 1, 7, 0], 1), Err(Refused::from(23)));
+	assert_eq!(write(&[1, 3, 1, 7, 0], 1), Err(Refused::from(23)));
+	assert_eq!(write(&[0, 0, 1, 2, 2], 1), Err(Refused::from(23)));
+	assert_eq!(write(&[2, 0, 1, u32::MAX, 0], 1), Err(Refused::from(23)));
+	assert_eq!(write(&[1, 0, 1, 7], 1), Err(Refused::from(23)));
 }
 
 #[test]
 fn refused_bodies() {
-	let read = |body: &[u8]| slp::read_map(body).map(|_| ()).map_err(|BadBody { number, place }| (number, place));
+	let read = |body: &[u8]| slp::read_map(body).map(|_| ()).map_err(|Refused { number, offset }| (number, offset));
 	assert_eq!(read(b"U\x01aT"), Err((23, 3)));
 	assert_eq!(read(b"U\x01aSI\x01\0"), Err((21, 4)));
 	assert_eq!(read(b"U\x01al\0\0\0\0U\x01al\0\0\0\0"), Err((22, 8)));
@@ -91,7 +91,7 @@ fn refused_bodies() {
 fn a_store_too_short_stays() {
 	let body = b"U\x01a{U\x01bl\0\0\0\x07}";
 	let mut cells = [9; 12];
-	assert_eq!(slp::read_entries(body, &mut cells[..9]), Err(BadBody { number: 12, place: 0 }));
+	assert_eq!(slp::read_entries(body, &mut cells[..9]), Err(Refused { number: 12, offset: 0 }));
 	assert_eq!(cells, [9; 12]);
 	let entries = slp::read_entries(body, &mut cells).unwrap();
 	assert_eq!((entries.count, entries.all), (1, 2));

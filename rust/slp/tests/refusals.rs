@@ -3,13 +3,14 @@
 mod common;
 
 use common::Made;
+use slp::Refused;
 
 fn refused(change: impl Fn(&mut Made)) -> u8 {
 	let mut made = Made::new();
 	assert!(made.write().is_ok());
 	change(&mut made);
 	let mut out = [0xee; 5000];
-	let number = slp::write(&made.game, &made.stores(), &mut out).unwrap_err();
+	let Refused { number, offset: 0 } = slp::write(&made.game, &made.stores(), &mut out).unwrap_err() else { panic!("a place") };
 	assert!(out.iter().all(|&byte| byte == 0xee), "refused {number}, and written to");
 	number
 }
@@ -34,7 +35,7 @@ fn the_rest() {
 	assert_eq!(refused(|m| m.game.end.initiator = 4), 11);
 	let made = Made::new();
 	let short = made.write().unwrap().len() - 1;
-	assert_eq!(slp::write(&made.game, &made.stores(), &mut vec![0; short]), Err(12));
+	assert_eq!(slp::write(&made.game, &made.stores(), &mut vec![0; short]), Err(Refused::from(12)));
 }
 
 #[test]
@@ -49,4 +50,12 @@ fn every_number_has_words() {
 	assert!(words[..18].iter().all(|&w| w != unknown));
 	assert!((19..=23).all(|number| slp::refusal_words(number) != unknown));
 	assert_eq!(slp::refusal_words(255), unknown);
+}
+
+#[test]
+fn a_refusal_is_an_error() {
+	let error: Box<dyn std::error::Error> = slp::read(&[0; 20]).unwrap_err().into();
+	assert_eq!(error.to_string(), "refused 14 at byte 0: not a replay: under 15 bytes, or a wrong signature");
+	assert_eq!(Refused::from(8).to_string(), format!("refused 8: {}", slp::refusal_words(8)));
+	assert_eq!(Refused { number: 22, offset: 8 }.to_string(), "refused 22 at byte 8: a key twice in one map of the metadata");
 }

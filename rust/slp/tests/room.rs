@@ -50,7 +50,7 @@ fn refusals() {
 	let refused = |change: fn(&mut Plan)| {
 		let mut plan = newest();
 		change(&mut plan);
-		slp::room(&plan).unwrap_err()
+		slp::room(&plan).unwrap_err().number
 	};
 	assert_eq!(refused(|p| p.version.patch = 1), 1);
 	assert_eq!(refused(|p| p.counts.frames = 1_048_577), 2);

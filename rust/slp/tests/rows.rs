@@ -5,7 +5,7 @@ mod common;
 use common::{Made, FRAMES};
 use slp::{
 	columns::{post, pre},
-	rows, Family,
+	rows, Family, Refused,
 };
 
 /// The cells of a row: those of each column at its place.
@@ -50,7 +50,7 @@ fn a_follower_that_the_port_has_not_is_absent() {
 	made.posts.truncate(post::COLUMNS * FRAMES);
 	let row = rows::frame_row(&made.game.frames, &made.stores(), 0).unwrap();
 	assert_eq!((row.ports[0].leader.present, row.ports[0].follower), (1, rows::Data::default()));
-	assert_eq!(rows::pre_row(&made.game.frames, &made.stores(), 1, 0), Err(13));
+	assert_eq!(rows::pre_row(&made.game.frames, &made.stores(), 1, 0), Err(Refused::from(13)));
 }
 
 #[test]
@@ -66,14 +66,14 @@ fn fields_are_named() {
 fn what_is_not_there_is_refused() {
 	let mut made = Made::new();
 	let (frames, stores) = (made.game.frames, made.stores());
-	assert_eq!(rows::frame_row(&frames, &stores, FRAMES), Err(13));
-	assert_eq!(rows::pre_row(&frames, &stores, 2, 0), Err(13));
-	assert_eq!(rows::item_row(&frames, &stores, 3), Err(13));
-	assert_eq!(rows::fod_platform_row(&frames, &stores, 0), Err(13));
-	assert_eq!(rows::dreamland_whispy_row(&frames, &stores, 0), Err(13));
-	assert_eq!(rows::stadium_transformation_row(&frames, &stores, 0), Err(13));
+	assert_eq!(rows::frame_row(&frames, &stores, FRAMES), Err(Refused::from(13)));
+	assert_eq!(rows::pre_row(&frames, &stores, 2, 0), Err(Refused::from(13)));
+	assert_eq!(rows::item_row(&frames, &stores, 3), Err(Refused::from(13)));
+	assert_eq!(rows::fod_platform_row(&frames, &stores, 0), Err(Refused::from(13)));
+	assert_eq!(rows::dreamland_whispy_row(&frames, &stores, 0), Err(Refused::from(13)));
+	assert_eq!(rows::stadium_transformation_row(&frames, &stores, 0), Err(Refused::from(13)));
 	made.game.frames.version.patch = 1;
-	assert_eq!(rows::frame_row(&made.game.frames, &made.stores(), 0), Err(1));
+	assert_eq!(rows::frame_row(&made.game.frames, &made.stores(), 0), Err(Refused::from(1)));
 }
 
 #[test]
@@ -110,15 +110,15 @@ fn a_run_that_is_not_there_is_refused() {
 	let (frames, stores) = (made.game.frames, made.stores());
 	let mut out = [7; 20];
 	assert_eq!(rows::run(&frames, &stores, Family::Pre, 0, 0..0, &mut []), Ok(0));
-	assert_eq!(rows::run(&frames, &stores, Family::Pre, 0, 0..1, &mut out[..19]), Err(12));
-	assert_eq!(rows::run(&frames, &stores, Family::Pre, 2, 0..1, &mut out), Err(13));
-	assert_eq!(rows::run(&frames, &stores, Family::Item, 1, 0..1, &mut out), Err(13));
-	assert_eq!(rows::run(&frames, &stores, Family::Pre, 0, 0..FRAMES + 1, &mut out), Err(13));
+	assert_eq!(rows::run(&frames, &stores, Family::Pre, 0, 0..1, &mut out[..19]), Err(Refused::from(12)));
+	assert_eq!(rows::run(&frames, &stores, Family::Pre, 2, 0..1, &mut out), Err(Refused::from(13)));
+	assert_eq!(rows::run(&frames, &stores, Family::Item, 1, 0..1, &mut out), Err(Refused::from(13)));
+	assert_eq!(rows::run(&frames, &stores, Family::Pre, 0, 0..FRAMES + 1, &mut out), Err(Refused::from(13)));
 	#[allow(clippy::reversed_empty_ranges)]
 	let reversed = 2..1;
-	assert_eq!(rows::run(&frames, &stores, Family::Pre, 0, reversed, &mut out), Err(13));
+	assert_eq!(rows::run(&frames, &stores, Family::Pre, 0, reversed, &mut out), Err(Refused::from(13)));
 	made.game.frames.version.patch = 1;
-	assert_eq!(rows::run(&made.game.frames, &made.stores(), Family::Pre, 0, 0..1, &mut out), Err(1));
+	assert_eq!(rows::run(&made.game.frames, &made.stores(), Family::Pre, 0, 0..1, &mut out), Err(Refused::from(1)));
 	assert_eq!(out, [7; 20]);
 }
 

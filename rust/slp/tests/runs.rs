@@ -3,6 +3,7 @@
 mod common;
 
 use common::{Made, FRAMES};
+use slp::Refused;
 
 const PLACE: usize = 5;
 
@@ -44,9 +45,9 @@ fn what_is_refused_changes_nothing() {
 	let made = Made::new();
 	let mut out = [0xee; 40];
 	let mut refused = |place, range: std::ops::Range<usize>| {
-		let number = slp::write_frames(&made.game.frames, &made.stores(), &mut out, place, range).unwrap_err();
+		let refused = slp::write_frames(&made.game.frames, &made.stores(), &mut out, place, range).unwrap_err();
 		assert!(out.iter().all(|&byte| byte == 0xee));
-		number
+		refused.number
 	};
 	#[allow(clippy::reversed_empty_ranges)]
 	let reversed = 2..1;
@@ -57,9 +58,9 @@ fn what_is_refused_changes_nothing() {
 	assert_eq!(refused(41, 1..1), 12);
 	assert_eq!(refused(usize::MAX, 1..1), 12);
 	assert_eq!(slp::write_frames(&made.game.frames, &made.stores(), &mut out, 40, 1..1), Ok(40));
-	assert_eq!(slp::write_frame(&made.game.frames, &made.stores(), &mut out, 0, FRAMES), Err(13));
-	assert_eq!(slp::write_frame(&made.game.frames, &made.stores(), &mut out, 0, usize::MAX), Err(13));
+	assert_eq!(slp::write_frame(&made.game.frames, &made.stores(), &mut out, 0, FRAMES), Err(Refused::from(13)));
+	assert_eq!(slp::write_frame(&made.game.frames, &made.stores(), &mut out, 0, usize::MAX), Err(Refused::from(13)));
 	let mut wrong = Made::new();
 	wrong.posts[0] = 256;
-	assert_eq!(slp::write_frame(&wrong.game.frames, &wrong.stores(), &mut out, 99, FRAMES), Err(4));
+	assert_eq!(slp::write_frame(&wrong.game.frames, &wrong.stores(), &mut out, 99, FRAMES), Err(Refused::from(4)));
 }

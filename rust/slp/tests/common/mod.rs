@@ -1,7 +1,7 @@
 //! A game of 3.18.0 that the tests share: three frames of a leader and a follower, who is away in the second; an item in the first and two in
 //! the third.
 
-use slp::{columns, Counts, End, Game, Optional, PortColumn, Stores, Version};
+use slp::{columns, Counts, End, Game, Optional, PortColumn, Refused, Stores, Version};
 
 pub const FRAMES: usize = 3;
 
@@ -64,7 +64,7 @@ impl Made {
 		}
 	}
 
-	pub fn write(&self) -> Result<Vec<u8>, u8> {
+	pub fn write(&self) -> Result<Vec<u8>, Refused> {
 		let mut out = vec![0; 10_000];
 		let len = slp::write(&self.game, &self.stores(), &mut out)?;
 		out.truncate(len);
