@@ -9,6 +9,7 @@ SLP_LIB ?= target/staticlib/libslp.a
 CFLAGS ?= -O2 -g
 CXXFLAGS ?= -O2 -g
 OBJCOPY ?= objcopy
+PYTHON ?= python3
 # Empty: the tests run without valgrind.
 VALGRIND ?= valgrind -q --error-exitcode=1
 
@@ -35,7 +36,7 @@ EXAMPLES := $(basename $(notdir $(wildcard examples/*.c)))
 FAULTED := cases refusals fuzz rows row_runs eights runs final live layout map room apart read read_refusals check index stack
 TESTS := $(PROGRAMS:%=target/c/bin/%) target/c/bin/header_examples target/c/bin/foreign target/c/bin/stack target/c/bin/dying.so target/c/bin/live_runs target/c/bin/slp_points target/c/bin/four_players $(EXAMPLES:%=target/c/examples/%) $(FAULTED:%=target/c/faults/%)
 
-.PHONY: all lib tests test test-rust examples install uninstall clean help always
+.PHONY: all lib tests test test-rust python test-python examples install uninstall clean help always
 .DELETE_ON_ERROR:
 .SECONDARY:
 
@@ -65,7 +66,7 @@ target/c/tests/%.o: tests/%.c Makefile
 	@mkdir -p $(@D)
 	$(CC) $(C11) $(TEST_PATHS) $(CFLAGS) -MMD -MP -c -o $@ $<
 
-target/c/bench/live_runs.o: bench/live_runs.c Makefile
+target/c/bench/live_runs.o target/c/bench/files.o: target/c/%.o: %.c Makefile
 	@mkdir -p $(@D)
 	$(CC) $(C11) $(TEST_PATHS) $(CFLAGS) -MMD -MP -c -o $@ $<
 
@@ -131,6 +132,11 @@ target/c/bin/dying.so: tests/c/dying.c Makefile
 	@mkdir -p $(@D)
 	$(CC) $(C11) $(CFLAGS) -fPIC -shared -o $@ $<
 
+# Replays on the disk, walked and read by C: what bench/python.py compares with.
+target/c/bin/files: target/c/bench/files.o $(SHARED_OBJECTS) $(SLP_LIB)
+	@mkdir -p $(@D)
+	$(CC) $(CFLAGS) $(LDFLAGS) -o $@ $^
+
 target/c/faults/stack: target/c/bench/stack.o target/c/tests/c/faults.o target/c/faults/slp.o
 	$(CC) $(CFLAGS) $(LDFLAGS) -Wl,-z,now -o $@ $^
 
@@ -159,6 +165,14 @@ test: tests
 test-rust: $(SLP_LIB) target/c/bin/dying.so
 	@tests/rust.sh $(SLP_LIB)
 
+# The Python package as a wheel; it needs setuptools and wheel, and no network.
+python: $(SHARED)
+	@rm -rf target/python && mkdir -p target/python
+	$(PYTHON) -m pip --quiet wheel --no-build-isolation --no-deps --no-index --wheel-dir target/python ./python
+
+test-python: python $(TOOL)
+	@PYTHON='$(PYTHON)' tests/python/run $(TOOL)
+
 # Made anew each time: another PREFIX may be asked for.
 target/slp.pc: slp.pc.in always
 	@mkdir -p $(@D)
@@ -179,13 +193,15 @@ uninstall:
 	rm -f $(addprefix $(DESTDIR)$(LIBDIR)/,libslp.a libslp.so $(SONAME) libslp.so.$(VERSION))
 
 clean:
-	rm -rf target/c target/shared target/slp.pc $(TOOL)
+	rm -rf target/c target/shared target/python target/slp.pc $(TOOL)
 
 help:
 	@echo 'make            the library (by rt, where it is not there yet), libslp.so and the tool $(TOOL)'
 	@echo 'make lib        the library again, from its proved sources'
 	@echo 'make test       the tests of the library, the header, the examples and the tool'
 	@echo 'make test-rust  the tests of the Rust crate over the library; they need cargo'
+	@echo 'make python     the Python package as a wheel, under target/python; it needs pip, setuptools and wheel'
+	@echo 'make test-python  its tests; they need numpy'
 	@echo 'make examples   the programs of examples/, under target/c/examples'
 	@echo 'make install    the tool, both libraries, slp.h and slp.pc, under PREFIX ($(PREFIX))'
 	@echo 'make uninstall  removes them again'

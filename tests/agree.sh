@@ -1,7 +1,7 @@
 #!/bin/sh
 # What is said in several places must be said in the same words: the refusals in docs/API.md and include/slp.h; their short words in the tool and in
 # the Rust crate; the columns in their definition, in the header, in the crate and in the tool; the test programs and their list; the version of the
-# library and of the crate.
+# library, of the crate and of the Python package.
 set -eu
 cd "$(dirname "$0")/.."
 to=target/agree
@@ -62,7 +62,7 @@ sed -n '/^| program /,/^$/s/^| \([a-z_, ]*\) |.*/\1/p' tests/c/README.md | tr -d
 agree 'the programs of tests/c and its README.md' programs listed
 
 sed -n 's/^#define SLP_VERSION "\(.*\)"/\1/p' include/slp.h >$to/version
-for other in rust/slp/Cargo.toml; do
+for other in rust/slp/Cargo.toml python/pyproject.toml; do
 	sed -n 's/^version = "\(.*\)"/\1/p' $other >$to/other-version
 	agree "the versions of include/slp.h and $other" version other-version
 done

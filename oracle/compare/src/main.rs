@@ -5,6 +5,7 @@
 //!                                  ends with 1 if there is none
 //!     compare readers COUNT SEED   what the comparison says of each wrong reader, in so many generated games; ends with 1 if it says nothing of one
 //!     compare maps COUNT SEED..    so many generated metadata maps of each seed
+//!     compare files COUNT SEED DIR   writes so many generated games that come back to DIR, with what the crate's views read of each
 //!     compare refusals             what the Rust does with inputs that are refused here, as a table
 //!     compare vectors DIR          stored vectors
 //!     compare wrong DIR            edits a copy of peppi at DIR into wrong writers, switched on by SLP_WRONG; says their numbers
@@ -14,6 +15,7 @@ mod cases;
 mod check;
 mod counts;
 mod fields;
+mod files;
 mod finals;
 mod live;
 mod maps;
@@ -36,7 +38,7 @@ use games::{
 };
 use readers::READERS;
 
-const USAGE: &str = "games COUNT SEED.. | maps COUNT SEED.. | first COUNT SEED | readers COUNT SEED | refusals | vectors DIR | wrong DIR";
+const USAGE: &str = "games COUNT SEED.. | maps COUNT SEED.. | first COUNT SEED | readers COUNT SEED | files COUNT SEED DIR | refusals | vectors DIR | wrong DIR";
 
 fn main() -> ExitCode {
 	// a panic of the Rust is an answer here, and is said where it matters
@@ -50,6 +52,7 @@ fn main() -> ExitCode {
 			maps::compare(number(count) as usize, &seeds.iter().map(|seed| number(seed)).collect::<Vec<_>>())
 		}
 		["readers", count, seed] => find_readers(number(count) as usize, number(seed)),
+		["files", count, seed, dir] => files::write(number(count) as usize, number(seed), dir),
 		["refusals"] => refusals::table(),
 		["vectors", dir] => vectors::write(dir),
 		["wrong", dir] => wrong::edit(dir),
