@@ -36,7 +36,7 @@ EXAMPLES := $(basename $(notdir $(wildcard examples/*.c)))
 FAULTED := cases refusals fuzz rows row_runs eights runs final live layout map room apart read read_refusals check index stack
 TESTS := $(PROGRAMS:%=target/c/bin/%) target/c/bin/header_examples target/c/bin/foreign target/c/bin/stack target/c/bin/dying.so target/c/bin/live_runs target/c/bin/slp_points target/c/bin/four_players $(EXAMPLES:%=target/c/examples/%) $(FAULTED:%=target/c/faults/%)
 
-.PHONY: all lib tests test test-rust python test-python examples install uninstall clean help always
+.PHONY: all lib tests test test-rust python test-python test-documents man dist package test-package examples install uninstall clean help always
 .DELETE_ON_ERROR:
 .SECONDARY:
 
@@ -162,6 +162,11 @@ test: tests
 	@tests/agree.sh
 	@VALGRIND='$(VALGRIND)' PROGRAMS='$(PROGRAMS)' FAULTED='$(FAULTED)' tests/c/run $(TOOL) $(SLP_LIB)
 
+# The examples of the documents, the man pages and the completions.
+test-documents: $(TOOL) man
+	@tests/documents.py target/documents README.md docs/API.md
+	@tests/man.sh target/man $(TOOL)
+
 test-rust: $(SLP_LIB) target/c/bin/dying.so
 	@tests/rust.sh $(SLP_LIB)
 
@@ -178,8 +183,15 @@ target/slp.pc: slp.pc.in always
 	@mkdir -p $(@D)
 	sed -e 's|@PREFIX@|$(PREFIX)|' -e 's|@LIBDIR@|$(LIBDIR)|' -e 's|@VERSION@|$(VERSION)|' slp.pc.in > $@
 
-install: all target/slp.pc
-	install -d $(DESTDIR)$(PREFIX)/bin $(DESTDIR)$(PREFIX)/include $(DESTDIR)$(LIBDIR)/pkgconfig
+# Man pages and completions, from the help, the header and the tool's tables. They need python3, and nothing beside it.
+man: $(TOOL)
+	docs/man.py $(TOOL) target/man
+
+SHARE = $(DESTDIR)$(PREFIX)/share
+PAGES := man/man1/slp.1 man/man3/slp.3 bash-completion/completions/slp zsh/site-functions/_slp fish/vendor_completions.d/slp.fish
+
+install: all man target/slp.pc
+	install -d $(DESTDIR)$(PREFIX)/bin $(DESTDIR)$(PREFIX)/include $(DESTDIR)$(LIBDIR)/pkgconfig $(addprefix $(SHARE)/,$(dir $(PAGES)))
 	install -m 755 $(TOOL) $(DESTDIR)$(PREFIX)/bin/slp
 	install -m 644 include/slp.h $(DESTDIR)$(PREFIX)/include/slp.h
 	install -m 644 $(SLP_LIB) $(DESTDIR)$(LIBDIR)/libslp.a
@@ -187,13 +199,35 @@ install: all target/slp.pc
 	ln -sf libslp.so.$(VERSION) $(DESTDIR)$(LIBDIR)/$(SONAME)
 	ln -sf $(SONAME) $(DESTDIR)$(LIBDIR)/libslp.so
 	install -m 644 target/slp.pc $(DESTDIR)$(LIBDIR)/pkgconfig/slp.pc
+	install -m 644 target/man/slp.1 $(SHARE)/man/man1/slp.1
+	install -m 644 target/man/slp.3 $(SHARE)/man/man3/slp.3
+	install -m 644 target/man/slp.bash $(SHARE)/bash-completion/completions/slp
+	install -m 644 target/man/_slp $(SHARE)/zsh/site-functions/_slp
+	install -m 644 target/man/slp.fish $(SHARE)/fish/vendor_completions.d/slp.fish
 
 uninstall:
 	rm -f $(DESTDIR)$(PREFIX)/bin/slp $(DESTDIR)$(PREFIX)/include/slp.h $(DESTDIR)$(LIBDIR)/pkgconfig/slp.pc
-	rm -f $(addprefix $(DESTDIR)$(LIBDIR)/,libslp.a libslp.so $(SONAME) libslp.so.$(VERSION))
+	rm -f $(addprefix $(DESTDIR)$(LIBDIR)/,libslp.a libslp.so $(SONAME) libslp.so.$(VERSION)) $(addprefix $(SHARE)/,$(PAGES))
+
+# The sources, and beside them the library as rt made it, so that who has no rt can build all the rest. The same files give the same archive.
+DIST := slp-$(VERSION)
+dist: $(SLP_LIB)
+	rm -rf target/dist && mkdir -p target/dist/$(DIST)/target/staticlib
+	{ git ls-files -z --cached --others --exclude-standard || find . -path ./target -prune -o -type f -print0; } 2>/dev/null | xargs -0 cp --parents -t target/dist/$(DIST)
+	cp $(SLP_LIB) target/dist/$(DIST)/target/staticlib/libslp.a
+	tar -C target/dist --sort=name --owner=0 --group=0 --numeric-owner --mode=go=u-w --mtime="$$(git log -1 --format=%cI 2>/dev/null || date -Iseconds)" -c $(DIST) | gzip -9n > target/$(DIST).tar.gz
+
+# Debian packages of that archive; debian/rules takes the library from it.
+package: dist
+	rm -rf target/package && mkdir -p target/package
+	tar -C target/package -xzf target/$(DIST).tar.gz
+	cd target/package/$(DIST) && env -u MAKEFLAGS -u MFLAGS -u MAKELEVEL dpkg-buildpackage -b -us -uc > ../log 2>&1 || { cat ../log; exit 1; }
+
+test-package: package
+	@tests/package.sh target/package
 
 clean:
-	rm -rf target/c target/shared target/python target/slp.pc $(TOOL)
+	rm -rf target/c target/shared target/python target/man target/dist target/documents target/slp.pc $(TOOL)
 
 help:
 	@echo 'make            the library (by rt, where it is not there yet), libslp.so and the tool $(TOOL)'
@@ -202,8 +236,13 @@ help:
 	@echo 'make test-rust  the tests of the Rust crate over the library; they need cargo'
 	@echo 'make python     the Python package as a wheel, under target/python; it needs pip, setuptools and wheel'
 	@echo 'make test-python  its tests; they need numpy'
+	@echo 'make test-documents  the examples of the documents, the man pages, the completions'
 	@echo 'make examples   the programs of examples/, under target/c/examples'
-	@echo 'make install    the tool, both libraries, slp.h and slp.pc, under PREFIX ($(PREFIX))'
+	@echo 'make install    the tool, both libraries, slp.h, slp.pc, man pages and completions, under PREFIX ($(PREFIX))'
+	@echo 'make man        man pages and completions, under target/man'
+	@echo 'make dist       an archive of the sources and the library, under target'
+	@echo 'make package    Debian packages of it, under target/package; they need debhelper'
+	@echo 'make test-package  builds them and tries them in an empty folder'
 	@echo 'make uninstall  removes them again'
 	@echo 'make clean      removes what make built, but not the library'
 	@echo

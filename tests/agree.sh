@@ -1,7 +1,7 @@
 #!/bin/sh
 # What is said in several places must be said in the same words: the refusals in docs/API.md and include/slp.h; their short words in the tool and in
 # the Rust crate; the columns in their definition, in the header, in the crate and in the tool; the test programs and their list; the version of the
-# library, of the crate and of the Python package.
+# library, of the crate, of the Python package and of Debian's.
 set -eu
 cd "$(dirname "$0")/.."
 to=target/agree
@@ -66,4 +66,6 @@ for other in rust/slp/Cargo.toml python/pyproject.toml; do
 	sed -n 's/^version = "\(.*\)"/\1/p' $other >$to/other-version
 	agree "the versions of include/slp.h and $other" version other-version
 done
+sed -n '1s/^slp (\(.*\)) .*/\1/p' debian/changelog >$to/other-version
+agree 'the versions of include/slp.h and debian/changelog' version other-version
 echo "agree: $checked lines said the same in two places"
