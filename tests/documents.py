@@ -21,7 +21,7 @@ ROOT = Path(__file__).resolve().parent.parent
 INDENT = "    "
 
 
-def sessions(text: str) -> list[tuple[int, str, list[str]]]:
+def transcripts(text: str) -> list[tuple[int, str, list[str]]]:
     """Line, command and output of each example. A blank line inside a block is part of it."""
     found: list[tuple[int, str, list[str]]] = []
     inside = False
@@ -53,7 +53,7 @@ def run(document: Path, folder: Path) -> int:
     (folder / "bin/python3").symlink_to(shutil.which(os.environ.get("PYTHON") or "python3") or sys.executable)
     environment = {**os.environ, "PATH": f"{folder}/bin:{ROOT}/target/bin:{os.environ['PATH']}", "LC_ALL": "C.UTF-8", "PYTHONPATH": str(ROOT / "target/python/wheel")}
     ran = 0
-    for number, command, expected in sessions(document.read_text()):
+    for number, command, expected in transcripts(document.read_text()):
         if unbuilt(command):
             print(f"documents: {document.relative_to(ROOT)}:{number} is left out: {unbuilt(command)[0]} is not built")
             continue
