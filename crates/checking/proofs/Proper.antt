@@ -40,7 +40,7 @@ bare-is t q =
     let (a, b) = both (eqb (length t) 1) (eqb (getD t 0 0) 0x7d) q in
     one-byte t (eqb-true (length t) 1 a) ∙ ap (λ (x : ℕ). x ∷ []) (eqb-true (getD t 0 0) 0x7d b)
 
-abbrev bodyIn : List ℕ → List ℕ
+abbrev pub bodyIn : List ℕ → List ℕ
 bodyIn t = part t 11 (length t - 13)
 
 body-is : (t : List ℕ) → hasBody t ≡ true → (t ≡ tailOf true (bodyIn t)) × (length (bodyIn t) ≤ 65535)
@@ -81,6 +81,10 @@ kind-some t q = go (bare t) (hasBody t) q
     go true b q = absurd (omega arith)
     go false true q = refl
     go false false q = absurd (omega arith)
+
+-- a tail of kind 1 is the key, a body and two braces; that such a tail is of kind 1 is `tail-kind`
+pub kind-one : (t : List ℕ) → tailKind t ≡ 1 → (t ≡ tailOf true (bodyIn t)) × (length (bodyIn t) ≤ 65535)
+kind-one t q = body-is t (kind-some t q)
 
 -- ---- bodies
 
@@ -125,7 +129,7 @@ module _ (f : List ℕ) where
       go (left-is e) = with-tail x false [] (bare-is t (kind-none t (eqb-true (tailKind t) 0 e))) (λ z. no-way z)
       go (right-is e) =
           let (a, b) = both (eqb (tailKind t) 1) (isBody (bodyIn t)) e in
-          let (is, few) = body-is t (kind-some t (eqb-true (tailKind t) 1 a)) in
+          let (is, few) = kind-one t (eqb-true (tailKind t) 1 a) in
           with-tail x true (bodyIn t) is (λ z. metadata-of (bodyIn t) (part-bytes t 11 (length t - 13) (drop-bytes f bytes (stopOf f))) few b)
 
   pub tail-right : Sound f → isTail t ≡ true
