@@ -103,6 +103,8 @@ static void call_rows(void) { kept = 1u + slp_rows(rows, sizeof rows / 4, game.f
 static void call_pre_of(void) { kept = 1u + slp_pre_of(cells, SLP_PRE_COLUMNS, game.frames.version, 1).state; }
 static void call_post_of(void) { kept = 1u + slp_post_of(cells, SLP_POST_COLUMNS, game.frames.version, 1).state; }
 static void call_columns(void) { kept = 1u + slp_columns(game.frames.version, SLP_FAMILY_POST); }
+static void call_column(void) { kept = slp_column(SLP_FAMILY_POST, 0).width; }
+static void call_refusal_words(void) { kept = (unsigned char)slp_refusal_words(SLP_NO_SUCH_ID).text[0]; }
 static void call_room(void) { kept = slp_room(slp_plan_of(&game, block.len, codes.len, metadata.len)).bytes; }
 static void call_check(void) { kept = 1 + slp_check(file, file_len).offset; }
 static void call_measure(void) { kept = slp_measure(file, file_len).places.block_at; }
@@ -163,6 +165,8 @@ static const struct {
 	{ "slp_pre_of", call_pre_of, 1400 },
 	{ "slp_post_of", call_post_of, 1400 },
 	{ "slp_columns", call_columns, 800 },
+	{ "slp_column", call_column, 1900 },
+	{ "slp_refusal_words", call_refusal_words, 2100 },
 	{ "slp_first_place", call_first_place, 256 },
 	{ "slp_room", call_room, 1500 },
 };

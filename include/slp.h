@@ -55,7 +55,7 @@ enum {
 	SLP_SHORT_OUTPUT = 12,
 	/* mask, final frames: an id below -123 or above 1,048,452; row: an index not below frames or, for a family's own row, its rows; or a slot that is
 	 * not there; run of frames: a range that is reversed or ends beyond the frames; rows of a run: no such family or slot, or a range that is reversed
-	 * or goes past the rows */
+	 * or goes past the rows; column: no such family or column */
 	SLP_OUT_OF_RANGE = 13,
 	/* reader, offset 0: under 15 bytes or wrong signature */
 	SLP_NOT_A_REPLAY = 14,
@@ -89,6 +89,17 @@ enum {
 	/* index: no row has the id */
 	SLP_NO_SUCH_ID = 27
 };
+
+/* A text with zeros behind it. */
+typedef struct {
+	char text[128];
+} slp_words;
+
+/* Why a call was refused, in words. Every number is taken, those of no refusal too.
+ *
+ *     printf("refused %u: %s\n", w.refused, slp_refusal_words(w.refused).text);
+ */
+slp_words slp_refusal_words(uint8_t number);
 
 /* ---- maxima */
 
@@ -521,6 +532,25 @@ enum {
 	SLP_STADIUM_TRANSFORMATION_TYPE,          /* 2, from 3.18 */
 	SLP_STADIUM_TRANSFORMATION_COLUMNS
 };
+
+/* What the cells of a column are: numbers, numbers with a sign, or floats, by their bits. */
+enum { SLP_UNSIGNED = 'u', SLP_SIGNED = 'i', SLP_FLOAT = 'f' };
+
+typedef struct {
+	uint8_t refused;        /* 0, or 13 where there is no such column; then all else is 0 */
+	uint8_t width;          /* in bytes */
+	char kind;              /* SLP_UNSIGNED, SLP_SIGNED or SLP_FLOAT */
+	uint8_t major, minor;   /* the first version that has it */
+	char name[32];          /* in small letters, with zeros behind it */
+} slp_column_answer;
+
+/* Column `n` of a family, by the numbers above: what its name says there, for programs that go through all of them.
+ *
+ *     slp_column_answer c;
+ *     for (size_t n = 0; !(c = slp_column(SLP_FAMILY_ITEM, n)).refused; n++)
+ *         printf("%s: %u bytes, %c, from %u.%u\n", c.name, c.width, c.kind, c.major, c.minor);
+ */
+slp_column_answer slp_column(uint8_t family, size_t n);
 
 /* The parameters of the fourteen lent stores, as they stand in the calls below: for each a pointer and a count. */
 #define SLP_STORE_PARAMETERS \

@@ -1,17 +1,18 @@
-"""Writes slp/_declared.py: the structs, numbers and calls of include/slp.h for ctypes, the columns of its families with their names, widths, kinds and
-first versions, and the words of refusals as the tool has them.
+"""Writes slp/_declared.py: the structs, numbers and calls of include/slp.h for ctypes, and the columns of its families as the library describes them.
 
-    declare.py SLP_H WORDS_C OUT
+    declare.py SLP_H LIBSLP_SO OUT
 
-It needs no compiler. What it does not understand of the header is an error, never left out.
+It needs no compiler. What it does not understand of the header is an error, never left out; so is a row of the header that is not as its columns are.
 """
 from __future__ import annotations
 
+import ctypes
 import re
 import sys
 from pathlib import Path
+from typing import Any
 
-NUMBERS = {"uint8_t": "c_uint8", "int8_t": "c_int8", "uint16_t": "c_uint16", "uint32_t": "c_uint32", "int32_t": "c_int32", "size_t": "c_size_t", "float": "c_float"}
+NUMBERS = {"char": "c_char", "uint8_t": "c_uint8", "int8_t": "c_int8", "uint16_t": "c_uint16", "uint32_t": "c_uint32", "int32_t": "c_int32", "size_t": "c_size_t", "float": "c_float"}
 KINDS = {"uint8_t": "u", "uint16_t": "u", "uint32_t": "u", "int8_t": "i", "int32_t": "i", "float": "f"}
 DTYPES = {("u", 1): "uint8", ("u", 2): "uint16", ("u", 4): "uint32", ("i", 1): "int8", ("i", 4): "int32", ("f", 4): "float32"}
 # A family's columns, the struct of its rows, and what its class is called.
@@ -60,7 +61,7 @@ def enums(text: str) -> dict[str, int]:
         following = 0
         for entry in [e.strip() for e in body.split(",") if e.strip()]:
             name, _, value = (part.strip() for part in entry.partition("="))
-            following = int(value, 0) if value else following
+            following = ord(value[1]) if value.startswith("'") else int(value, 0) if value else following
             numbers[name] = following
             following += 1
     return numbers
@@ -122,32 +123,36 @@ def flat(name: str, shapes: dict[str, list[tuple[str, str, int]]]) -> list[tuple
     return found
 
 
-def columns(header: str, family: str, row: list[tuple[str, str]]) -> list[tuple[str, int, str, tuple[int, int]]]:
-    """Name, width, kind and first version: the kind is that of the field in the family's row, which stands in the same place."""
-    body = re.search(rf"enum \{{\n((?:\tSLP_{family}_\w+, +/\*.*\n)+)\tSLP_{family}_COLUMNS\n", header)
-    if not body:
-        raise Odd(f"no columns of {family}")
-    lines = re.findall(rf"\tSLP_{family}_(\w+), +/\* ([124])(?:, from (\d+)\.(\d+))? \*/", body[1])
-    if len(lines) != len(row) or body[1].count("\n") != len(lines):
-        raise Odd(f"{family} has {len(lines)} columns and its row {len(row)} fields")
-    found = []
-    for (name, width, major, minor), (field, kind) in zip(lines, row):
-        name = name.lower()
-        if field not in (name, f"{name}_id") or (KINDS[kind], int(width)) not in DTYPES:
-            raise Odd(f"column {name} of {family} beside the field {kind} {field}")
-        found.append((name, int(width), KINDS[kind], (int(major or 0), int(minor or 0))))
+def describe(library: str, shape: list[tuple[str, str, int]]) -> Any:
+    """The call slp_column, whose answer has this shape."""
+
+    class Answer(ctypes.Structure):
+        _fields_ = [(field, getattr(ctypes, NUMBERS[kind]) * count if count else getattr(ctypes, NUMBERS[kind])) for kind, field, count in shape]
+
+    call = ctypes.CDLL(library).slp_column
+    call.restype, call.argtypes = Answer, (ctypes.c_uint8, ctypes.c_size_t)
+    return call
+
+
+def columns(described: Any, family: str, number: int, row: list[tuple[str, str]]) -> list[tuple[str, int, str, tuple[int, int]]]:
+    """Name, width, kind and first version of a family's columns; the fields of its row stand in the same order and are of the same kinds."""
+    found: list[tuple[str, int, str, tuple[int, int]]] = []
+    while not (c := described(number, len(found))).refused:
+        found.append((c.name.decode(), c.width, c.kind.decode(), (c.major, c.minor)))
+    if len(found) != len(row):
+        raise Odd(f"{family} has {len(found)} columns and its row {len(row)} fields")
+    for (name, width, kind, _), (field, is_of) in zip(found, row):
+        if field not in (name, f"{name}_id") or KINDS[is_of] != kind or (kind, width) not in DTYPES:
+            raise Odd(f"column {name} of {family} beside the field {is_of} {field}")
     return found
 
 
-def words(source: str, numbers: dict[str, int]) -> dict[int, str]:
-    return {numbers[name]: text for name, text in re.findall(r'^\t\[(SLP_\w+)\] = "(.*)",$', source, re.M)}
-
-
-def declared(header: str, tool_words: str) -> str:
+def declared(header: str, library: str) -> str:
     constants, parameters = macros(header)
     plain = bare(header)
     numbers, shapes = enums(plain), structs(plain)
-    out = ['"""Made of include/slp.h and tools/words.c by declare.py."""', "from __future__ import annotations", ""]
+    described = describe(library, shapes["slp_column_answer"])
+    out = ['"""Made of include/slp.h and the library by declare.py."""', "from __future__ import annotations", ""]
     out += [f"from ctypes import Structure, {', '.join(sorted(set(NUMBERS.values())))}, c_void_p", "from typing import TYPE_CHECKING", ""]
     out += ["from ._columns import Column, Columns, Rows", "", "if TYPE_CHECKING:", "    import numpy as np", "    import numpy.typing as npt", ""]
     out += [f"{name} = {value}" for name, value in constants.items()]
@@ -159,19 +164,17 @@ def declared(header: str, tool_words: str) -> str:
         known.add(name)
     out += ["", "", "# What each call answers, and takes.", "CALLS = {"]
     out += [f'    "{name}": ({answer}, ({", ".join(kinds)},)),' for name, (answer, kinds) in calls(plain, parameters, known).items()]
-    out += ["}", "", "WORDS = {"]
-    out += [f"    {number}: {text!r}," for number, text in sorted(words(tool_words, numbers).items())]
     out += ["}"]
     for family, row, name, base in FAMILIES:
-        table = columns(header, family, flat(row, shapes))
+        table = columns(described, family, numbers[f"SLP_FAMILY_{family}"], flat(row, shapes))
         out += ["", "", f"class {name}({base}):", f'    """The columns of {name}, as far as the replay\'s version has them."""', "", "    __slots__ = ()"]
         out += [f"    COLUMNS = ({', '.join(f'Column({n!r}, {w}, {k!r}, {v})' for n, w, k, v in table)},)", "    if TYPE_CHECKING:"]
         out += [f"        {n}: npt.NDArray[np.{DTYPES[k, w]}]" for n, w, k, _ in table]
     return "\n".join(out) + "\n"
 
 
-def main(header: str, tool_words: str, to: str) -> None:
-    text = declared(Path(header).read_text(), Path(tool_words).read_text())
+def main(header: str, library: str, to: str) -> None:
+    text = declared(Path(header).read_text(), str(Path(library).resolve()))
     path = Path(to)
     if not path.exists() or path.read_text() != text:
         path.write_text(text)

@@ -25,7 +25,7 @@ class Build(build_py):
     def run(self) -> None:
         if not LIBRARY.exists():
             sys.exit(f"{LIBRARY} is missing: run make in the repository first, or set SLP_SHARED to a libslp.so")
-        declare.main(str(ROOT / "include/slp.h"), str(ROOT / "tools/words.c"), str(HERE / "slp/_declared.py"))
+        declare.main(str(ROOT / "include/slp.h"), str(LIBRARY), str(HERE / "slp/_declared.py"))
         shutil.copyfile(LIBRARY, HERE / "slp/libslp.so.0")
         super().run()
 

@@ -15,35 +15,38 @@ static const char *events_words(const content *c)
 	return "the table of payload sizes, the place of an event, a code block, a player or an end is not as its version has it";
 }
 
-static const char *wrong_words(const content *c, unsigned number)
+/* The words, which may stand in `room`. */
+static const char *wrong_words(const content *c, uint8_t number, slp_words *room)
 {
 	switch (number) {
 	case SLP_BAD_EVENTS: return events_words(c);
 	case SLP_BAD_BODY: return "what stands after the event data is neither a closing brace nor metadata that can be read";
-	default: return refusal_words(number);
+	default: *room = slp_refusal_words(number); return room->text;
 	}
 }
 
 /* 15 to 17 name a place; so does 14, but it is the file's beginning. */
 static void print_answer(const char *prefix, const content *c, slp_checked is)
 {
+	slp_words room;
 	progress_clear();
 	if (prefix)
 		print_prefix(prefix);
 	if (!is.refused)
 		fputs("sound\n", out());
 	else if (is.offset)
-		fprintf(out(), "%u: %s, at byte %zu\n", is.refused, wrong_words(c, is.refused), is.offset);
+		fprintf(out(), "%u: %s, at byte %zu\n", is.refused, wrong_words(c, is.refused, &room), is.offset);
 	else
-		fprintf(out(), "%u: %s\n", is.refused, wrong_words(c, is.refused));
+		fprintf(out(), "%u: %s\n", is.refused, wrong_words(c, is.refused, &room));
 }
 
 static void print_json(const char *path, const content *c, slp_checked is)
 {
 	json j = json_file(path);
+	slp_words room;
 	json_mark(&j, "sound", !is.refused);
 	if (is.refused)
-		json_refused_for(&j, is.refused, is.offset, wrong_words(c, is.refused));
+		json_refused_for(&j, is.refused, is.offset, wrong_words(c, is.refused, &room));
 	json_line(&j);
 }
 

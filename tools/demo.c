@@ -334,7 +334,7 @@ static void report(const char *path, const cells *c, slp_written file, slp_writt
 static int taken(slp_written w)
 {
 	if (w.refused)
-		complain("demo", "refused %u: %s", w.refused, refusal_words(w.refused));
+		complain("demo", "refused %u: %s", w.refused, REFUSAL_WORDS(w.refused));
 	return !w.refused;
 }
 

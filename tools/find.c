@@ -34,7 +34,7 @@ static int accepted_beside(const char *path, const content *file, content *index
 			complain(path, "through the index beside it");
 			status = WELL;
 		} else if (number == SLP_BAD_INDEX || number == SLP_OTHER_REPLAY) {
-			complain(name, "refused %u: %s", number, refusal_words(number));
+			complain(name, "refused %u: %s", number, REFUSAL_WORDS(number));
 			complain(path, "by a walk");
 		}
 		if (status != WELL)
@@ -63,7 +63,7 @@ static int find_in(const char *path, const content *file, int32_t id)
 	slp_moment m = slp_find_frame(index.bytes, index.len, id);
 	free(index.bytes);
 	if (m.refused) {
-		complain(input_name(path), "frame %ld: refused %u: %s", (long)id, m.refused, refusal_words(m.refused));
+		complain(input_name(path), "frame %ld: refused %u: %s", (long)id, m.refused, REFUSAL_WORDS(m.refused));
 		return FAILED;
 	}
 	print_moment(m);

@@ -101,7 +101,7 @@ void json_refused_for(json *j, unsigned number, size_t offset, const char *words
 
 void json_refused(json *j, unsigned number, size_t offset)
 {
-	json_refused_for(j, number, offset, refusal_words(number));
+	json_refused_for(j, number, offset, REFUSAL_WORDS(number));
 }
 
 void json_line(json *j)

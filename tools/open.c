@@ -15,7 +15,7 @@ void complain_unread(const char *name, const content *c, unsigned number, size_t
 		complain_length(name, c, number, offset);
 		return;
 	}
-	complain(name, "refused %u: %s", number, refusal_words(number));
+	complain(name, "refused %u: %s", number, REFUSAL_WORDS(number));
 	if (!w.whole)
 		complain_cut(name, c->bytes, c->len);
 }

@@ -36,7 +36,7 @@ int save_written(const request *q, slp_written w, const uint8_t *file)
 {
 	const char *in = q->files[0], *out = q->files[1];
 	if (w.refused) {
-		complain(input_name(in), "refused %u: %s", w.refused, refusal_words(w.refused));
+		complain(input_name(in), "refused %u: %s", w.refused, REFUSAL_WORDS(w.refused));
 		return FAILED;
 	}
 	progress_begin(q->progress, "writing", w.len);

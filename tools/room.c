@@ -105,6 +105,6 @@ int show_room(const request *q)
 	else if (!r.refused)
 		print_room(p, r);
 	if (r.refused)
-		complain("room", "refused %u: %s", r.refused, refusal_words(r.refused));
+		complain("room", "refused %u: %s", r.refused, REFUSAL_WORDS(r.refused));
 	return r.refused ? FAILED : WELL;
 }

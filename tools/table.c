@@ -11,113 +11,17 @@
 /* What a column has: something of the line itself; or a cell, as a number, as one with a sign, of a byte or of all four, or as a float. */
 typedef enum { ID, PORT, FOLLOWER, REPLACED, WHOLE, SIGNED, LONG_SIGNED, REAL } kind;
 
+/* The longest prefix, an underscore, and a name. */
+enum { NAME = 64 };
+
 typedef struct {
-	const char *name;
+	char name[NAME];
 	kind as;
 } column;
 
 /* What every line begins with; the two in the middle are a player's. */
 static const column OWN[] = { { "id", ID }, { "port", PORT }, { "follower", FOLLOWER }, { "replaced", REPLACED } };
 enum { OWN_COLUMNS = sizeof OWN / sizeof *OWN };
-
-static const column PRE[SLP_PRE_COLUMNS] = {
-	[SLP_PRE_RANDOM_SEED] = { "pre_random_seed", WHOLE },
-	[SLP_PRE_STATE] = { "pre_state", WHOLE },
-	[SLP_PRE_POSITION_X] = { "pre_position_x", REAL },
-	[SLP_PRE_POSITION_Y] = { "pre_position_y", REAL },
-	[SLP_PRE_DIRECTION] = { "pre_direction", REAL },
-	[SLP_PRE_JOYSTICK_X] = { "pre_joystick_x", REAL },
-	[SLP_PRE_JOYSTICK_Y] = { "pre_joystick_y", REAL },
-	[SLP_PRE_CSTICK_X] = { "pre_cstick_x", REAL },
-	[SLP_PRE_CSTICK_Y] = { "pre_cstick_y", REAL },
-	[SLP_PRE_TRIGGERS] = { "pre_triggers", REAL },
-	[SLP_PRE_BUTTONS] = { "pre_buttons", WHOLE },
-	[SLP_PRE_BUTTONS_PHYSICAL] = { "pre_buttons_physical", WHOLE },
-	[SLP_PRE_TRIGGERS_PHYSICAL_L] = { "pre_triggers_physical_l", REAL },
-	[SLP_PRE_TRIGGERS_PHYSICAL_R] = { "pre_triggers_physical_r", REAL },
-	[SLP_PRE_RAW_ANALOG_X] = { "pre_raw_analog_x", SIGNED },
-	[SLP_PRE_PERCENT] = { "pre_percent", REAL },
-	[SLP_PRE_RAW_ANALOG_Y] = { "pre_raw_analog_y", SIGNED },
-	[SLP_PRE_RAW_ANALOG_CSTICK_X] = { "pre_raw_analog_cstick_x", SIGNED },
-	[SLP_PRE_RAW_ANALOG_CSTICK_Y] = { "pre_raw_analog_cstick_y", SIGNED },
-};
-
-static const column POST[SLP_POST_COLUMNS] = {
-	[SLP_POST_CHARACTER] = { "post_character", WHOLE },
-	[SLP_POST_STATE] = { "post_state", WHOLE },
-	[SLP_POST_POSITION_X] = { "post_position_x", REAL },
-	[SLP_POST_POSITION_Y] = { "post_position_y", REAL },
-	[SLP_POST_DIRECTION] = { "post_direction", REAL },
-	[SLP_POST_PERCENT] = { "post_percent", REAL },
-	[SLP_POST_SHIELD] = { "post_shield", REAL },
-	[SLP_POST_LAST_ATTACK_LANDED] = { "post_last_attack_landed", WHOLE },
-	[SLP_POST_COMBO_COUNT] = { "post_combo_count", WHOLE },
-	[SLP_POST_LAST_HIT_BY] = { "post_last_hit_by", WHOLE },
-	[SLP_POST_STOCKS] = { "post_stocks", WHOLE },
-	[SLP_POST_STATE_AGE] = { "post_state_age", REAL },
-	[SLP_POST_STATE_FLAGS_0] = { "post_state_flags_0", WHOLE },
-	[SLP_POST_STATE_FLAGS_1] = { "post_state_flags_1", WHOLE },
-	[SLP_POST_STATE_FLAGS_2] = { "post_state_flags_2", WHOLE },
-	[SLP_POST_STATE_FLAGS_3] = { "post_state_flags_3", WHOLE },
-	[SLP_POST_STATE_FLAGS_4] = { "post_state_flags_4", WHOLE },
-	[SLP_POST_MISC_AS] = { "post_misc_as", REAL },
-	[SLP_POST_AIRBORNE] = { "post_airborne", WHOLE },
-	[SLP_POST_GROUND] = { "post_ground", WHOLE },
-	[SLP_POST_JUMPS] = { "post_jumps", WHOLE },
-	[SLP_POST_L_CANCEL] = { "post_l_cancel", WHOLE },
-	[SLP_POST_HURTBOX_STATE] = { "post_hurtbox_state", WHOLE },
-	[SLP_POST_VELOCITIES_SELF_X_AIR] = { "post_velocities_self_x_air", REAL },
-	[SLP_POST_VELOCITIES_SELF_Y] = { "post_velocities_self_y", REAL },
-	[SLP_POST_VELOCITIES_KNOCKBACK_X] = { "post_velocities_knockback_x", REAL },
-	[SLP_POST_VELOCITIES_KNOCKBACK_Y] = { "post_velocities_knockback_y", REAL },
-	[SLP_POST_VELOCITIES_SELF_X_GROUND] = { "post_velocities_self_x_ground", REAL },
-	[SLP_POST_HITLAG] = { "post_hitlag", REAL },
-	[SLP_POST_ANIMATION_INDEX] = { "post_animation_index", WHOLE },
-	[SLP_POST_LAST_HIT_BY_INSTANCE] = { "post_last_hit_by_instance", WHOLE },
-	[SLP_POST_INSTANCE_ID] = { "post_instance_id", WHOLE },
-};
-
-static const column FRAME_START[SLP_FRAME_START_COLUMNS] = {
-	[SLP_FRAME_START_RANDOM_SEED] = { "frame_start_random_seed", WHOLE },
-	[SLP_FRAME_START_SCENE_FRAME_COUNTER] = { "frame_start_scene_frame_counter", WHOLE },
-};
-
-static const column FRAME_END[SLP_FRAME_END_COLUMNS] = {
-	[SLP_FRAME_END_LATEST_FINALIZED_FRAME] = { "frame_end_latest_finalized_frame", LONG_SIGNED },
-};
-
-static const column ITEM[SLP_ITEM_COLUMNS] = {
-	[SLP_ITEM_TYPE] = { "item_type", WHOLE },
-	[SLP_ITEM_STATE] = { "item_state", WHOLE },
-	[SLP_ITEM_DIRECTION] = { "item_direction", REAL },
-	[SLP_ITEM_VELOCITY_X] = { "item_velocity_x", REAL },
-	[SLP_ITEM_VELOCITY_Y] = { "item_velocity_y", REAL },
-	[SLP_ITEM_POSITION_X] = { "item_position_x", REAL },
-	[SLP_ITEM_POSITION_Y] = { "item_position_y", REAL },
-	[SLP_ITEM_DAMAGE] = { "item_damage", WHOLE },
-	[SLP_ITEM_TIMER] = { "item_timer", REAL },
-	[SLP_ITEM_ID] = { "item_id", WHOLE },
-	[SLP_ITEM_MISC_0] = { "item_misc_0", WHOLE },
-	[SLP_ITEM_MISC_1] = { "item_misc_1", WHOLE },
-	[SLP_ITEM_MISC_2] = { "item_misc_2", WHOLE },
-	[SLP_ITEM_MISC_3] = { "item_misc_3", WHOLE },
-	[SLP_ITEM_OWNER] = { "item_owner", SIGNED },
-	[SLP_ITEM_INSTANCE_ID] = { "item_instance_id", WHOLE },
-};
-
-static const column FOD_PLATFORM[SLP_FOD_PLATFORM_COLUMNS] = {
-	[SLP_FOD_PLATFORM_PLATFORM] = { "fod_platform_platform", WHOLE },
-	[SLP_FOD_PLATFORM_HEIGHT] = { "fod_platform_height", REAL },
-};
-
-static const column DREAMLAND_WHISPY[SLP_DREAMLAND_WHISPY_COLUMNS] = {
-	[SLP_DREAMLAND_WHISPY_DIRECTION] = { "dreamland_whispy_direction", WHOLE },
-};
-
-static const column STADIUM_TRANSFORMATION[SLP_STADIUM_TRANSFORMATION_COLUMNS] = {
-	[SLP_STADIUM_TRANSFORMATION_EVENT] = { "stadium_transformation_event", WHOLE },
-	[SLP_STADIUM_TRANSFORMATION_TYPE] = { "stadium_transformation_type", WHOLE },
-};
 
 /* What a table has a line for. */
 typedef enum { A_PLAYER, A_FRAME, A_ROW } unit;
@@ -142,19 +46,11 @@ static const choice CHOICES[] = {
 	{ "stadium", A_ROW, { SLP_FAMILY_STADIUM_TRANSFORMATION }, 1 },
 };
 
-/* The names of a family's columns, and how many the newest version has. */
-static const struct {
-	const column *columns;
-	size_t count;
-} FAMILIES[] = {
-	[SLP_FAMILY_FRAME_START] = { FRAME_START, SLP_FRAME_START_COLUMNS },
-	[SLP_FAMILY_PRE] = { PRE, SLP_PRE_COLUMNS },
-	[SLP_FAMILY_POST] = { POST, SLP_POST_COLUMNS },
-	[SLP_FAMILY_FRAME_END] = { FRAME_END, SLP_FRAME_END_COLUMNS },
-	[SLP_FAMILY_ITEM] = { ITEM, SLP_ITEM_COLUMNS },
-	[SLP_FAMILY_FOD_PLATFORM] = { FOD_PLATFORM, SLP_FOD_PLATFORM_COLUMNS },
-	[SLP_FAMILY_DREAMLAND_WHISPY] = { DREAMLAND_WHISPY, SLP_DREAMLAND_WHISPY_COLUMNS },
-	[SLP_FAMILY_STADIUM_TRANSFORMATION] = { STADIUM_TRANSFORMATION, SLP_STADIUM_TRANSFORMATION_COLUMNS },
+/* What the names of a family's columns begin with. */
+static const char *const PREFIXES[] = {
+	[SLP_FAMILY_FRAME_START] = "frame_start", [SLP_FAMILY_PRE] = "pre", [SLP_FAMILY_POST] = "post", [SLP_FAMILY_FRAME_END] = "frame_end",
+	[SLP_FAMILY_ITEM] = "item", [SLP_FAMILY_FOD_PLATFORM] = "fod_platform", [SLP_FAMILY_DREAMLAND_WHISPY] = "dreamland_whispy",
+	[SLP_FAMILY_STADIUM_TRANSFORMATION] = "stadium_transformation",
 };
 
 /* More columns than any table has, and than can be asked for. */
@@ -162,8 +58,7 @@ enum { MOST_COLUMNS = 128 };
 
 /* A column that is shown: its cells, and how far it is from a slot's to the next one's. */
 typedef struct {
-	const char *name;
-	kind as;
+	column of;
 	const uint32_t *cells;
 	size_t stride;
 } shown;
@@ -202,11 +97,11 @@ static void put_real(uint32_t cell, int comma)
 static void put_cell(const table *t, const shown *c, const line *l)
 {
 	uint32_t cell = c->cells[l->slot * c->stride + l->at];
-	if (c->as == REAL)
+	if (c->of.as == REAL)
 		put_real(cell, t->comma);
-	else if (c->as == SIGNED)
+	else if (c->of.as == SIGNED)
 		printf("%d", (int)(int8_t)(uint8_t)cell);
-	else if (c->as == LONG_SIGNED)
+	else if (c->of.as == LONG_SIGNED)
 		printf("%ld", (long)(int32_t)cell);
 	else
 		printf("%lu", (unsigned long)cell);
@@ -214,7 +109,7 @@ static void put_cell(const table *t, const shown *c, const line *l)
 
 static void put_column(const table *t, const shown *c, const line *l)
 {
-	switch (c->as) {
+	switch (c->of.as) {
 	case ID: printf("%ld", (long)(int32_t)t->replay.space.ids.p[l->frame]); break;
 	case PORT: printf("%u", l->port); break;
 	case FOLLOWER: printf("%d", l->follower); break;
@@ -239,7 +134,7 @@ static void put_line(const table *t, const line *l)
 static void put_names(const table *t)
 {
 	for (size_t k = 0; k < t->count; k++)
-		printf("%s%s", k == 0 ? "" : t->comma ? ";" : ",", t->columns[k].name);
+		printf("%s%s", k == 0 ? "" : t->comma ? ";" : ",", t->columns[k].of.name);
 	putchar('\n');
 }
 
@@ -330,14 +225,32 @@ static size_t rows_of(const slp_counts *n, uint8_t family)
 	}
 }
 
+static kind kind_of(const slp_column_answer *c)
+{
+	return c->kind == SLP_FLOAT ? REAL : c->kind == SLP_UNSIGNED ? WHOLE : c->width == 1 ? SIGNED : LONG_SIGNED;
+}
+
+/* Column n of a family under the name that it has in a table; 0 where there is none. */
+static int find_column(uint8_t family, size_t n, column *found)
+{
+	slp_column_answer c = slp_column(family, n);
+	if (c.refused)
+		return 0;
+	snprintf(found->name, sizeof found->name, "%s_%s", PREFIXES[family], c.name);
+	found->as = kind_of(&c);
+	return 1;
+}
+
 static void add_family(table *t, uint8_t family)
 {
 	const slp_frames *f = &t->replay.opened.game.frames;
 	size_t columns = slp_columns(f->version, family), rows = rows_of(&f->counts, family);
 	const uint32_t *cells = store_of(&t->replay.space, family).p;
 	for (size_t c = 0; c < columns; c++) {
-		const column *named = &FAMILIES[family].columns[c];
-		t->columns[t->count++] = (shown){ named->name, named->as, cells + c * rows, columns * rows };
+		shown *to = &t->columns[t->count++];
+		find_column(family, c, &to->of);
+		to->cells = cells + c * rows;
+		to->stride = columns * rows;
 	}
 }
 
@@ -351,7 +264,7 @@ static void add_all(table *t)
 {
 	for (int k = 0; k < OWN_COLUMNS; k++)
 		if (begins_with(t->choice, &OWN[k]))
-			t->columns[t->count++] = (shown){ OWN[k].name, OWN[k].as, NULL, 0 };
+			t->columns[t->count++] = (shown){ OWN[k], NULL, 0 };
 	for (int k = 0; k < t->choice->count; k++)
 		add_family(t, t->choice->families[k]);
 }
@@ -381,7 +294,7 @@ static int pick_columns(const char *file, table *t, const char *list)
 	t->count = 0;
 	for (const char *name; (name = next_name(&list, &len)) != NULL;) {
 		size_t k = 0;
-		while (k < had && !is_called(all[k].name, name, len))
+		while (k < had && !is_called(all[k].of.name, name, len))
 			k++;
 		if (k == had) {
 			complain(file, "its version has no column %.*s", (int)len, name);
@@ -408,9 +321,10 @@ static int has_column(const choice *c, const char *name, size_t len)
 	for (int k = 0; k < OWN_COLUMNS; k++)
 		if (begins_with(c, &OWN[k]) && is_called(OWN[k].name, name, len))
 			return 1;
+	column in;
 	for (int f = 0; f < c->count; f++)
-		for (size_t k = 0; k < FAMILIES[c->families[f]].count; k++)
-			if (is_called(FAMILIES[c->families[f]].columns[k].name, name, len))
+		for (size_t k = 0; find_column(c->families[f], k, &in); k++)
+			if (is_called(in.name, name, len))
 				return 1;
 	return 0;
 }
@@ -443,11 +357,11 @@ static int mask_frames(const char *name, table *t)
 {
 	unsigned refused = find_replaced(&t->replay, &t->replaced);
 	if (refused && t->final) {
-		complain(name, "refused %u: %s", refused, refusal_words(refused));
+		complain(name, "refused %u: %s", refused, REFUSAL_WORDS(refused));
 		return FAILED;
 	}
 	if (refused)
-		complain(name, "which frames were replaced is left open: %s", refusal_words(refused));
+		complain(name, "which frames were replaced is left open: %s", REFUSAL_WORDS(refused));
 	else if (!t->replaced)
 		complain(name, "no memory");
 	return refused || t->replaced ? WELL : FAILED;

@@ -108,8 +108,8 @@ void json_line(json *j);
 
 /* ---- words.c: messages; names in them are shown by put_name */
 
-/* Why a call was refused, in words. */
-const char *refusal_words(unsigned number);
+/* Why a call was refused, in words that are there to the end of the statement. */
+#define REFUSAL_WORDS(number) (slp_refusal_words((uint8_t)(number)).text)
 /* An event's name, or NULL. */
 const char *event_name(uint8_t code);
 /* What to call a file in messages: - is standard input or output. */

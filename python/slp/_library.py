@@ -8,7 +8,7 @@ from typing import Any
 
 import numpy as np
 
-from ._declared import CALLS, WORDS
+from ._declared import CALLS
 
 SONAME = "libslp.so.0"
 # Refusals that name a place in the file, and of a body those that name one in it.
@@ -32,7 +32,7 @@ class Refused(ValueError):
     def __init__(self, number: int, place: int | None = None) -> None:
         super().__init__(number, place)
         self.number = number
-        self.words = WORDS.get(number, "for a reason that is not known here")
+        self.words = call("slp_refusal_words", number).text.decode()
         self.place = place
 
     def __str__(self) -> str:

@@ -7,6 +7,8 @@
 
 slp_step real_slp_step_at(const uint8_t *file, size_t file_len, size_t place);
 size_t real_slp_columns(slp_version version, uint8_t family);
+slp_column_answer real_slp_column(uint8_t family, size_t n);
+slp_words real_slp_refusal_words(uint8_t number);
 size_t real_slp_first_place(const uint8_t *file, size_t file_len);
 slp_walked real_slp_walk(const uint8_t *file, size_t file_len);
 uint8_t real_slp_rollbacks(const uint32_t *ids, size_t ids_len, uint8_t keep, uint8_t *mask, size_t mask_len, uint8_t *scratch,
@@ -66,6 +68,32 @@ size_t slp_columns(slp_version version, uint8_t family)
 	if (faulty("columns-family"))
 		family &= 127;
 	return real_slp_columns(version, family);
+}
+
+slp_column_answer slp_column(uint8_t family, size_t n)
+{
+	if (faulty("column-number"))
+		n &= 0xffffffff;
+	slp_column_answer c = real_slp_column(family, n);
+	if (faulty("column-width") && c.width == 2)
+		c.width = 4;
+	if (faulty("column-kind") && c.kind == SLP_FLOAT && c.major)
+		c.kind = SLP_UNSIGNED;
+	if (faulty("column-since") && c.minor == 16)
+		c.minor = 15;
+	if (faulty("column-name"))
+		c.name[8] = 0;
+	if (faulty("column-none") && c.refused)
+		c.width = 1;
+	return c;
+}
+
+slp_words slp_refusal_words(uint8_t number)
+{
+	slp_words w = real_slp_refusal_words(faulty("words-number") && number == 27 ? 26 : number);
+	if (faulty("words-end"))
+		w.text[127] = '.';
+	return w;
 }
 
 size_t slp_first_place(const uint8_t *file, size_t file_len)

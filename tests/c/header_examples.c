@@ -254,6 +254,21 @@ static void show_rows(void)
 	show_run(game, stores);
 }
 
+/* ---- names */
+
+static void name_columns(void)
+{
+	slp_column_answer c;
+	for (size_t n = 0; !(c = slp_column(SLP_FAMILY_ITEM, n)).refused; n++)
+		printf("%s: %u bytes, %c, from %u.%u\n", c.name, c.width, c.kind, c.major, c.minor);
+}
+
+static void say_why(void)
+{
+	slp_walked w = slp_walk(NULL, 0);
+	printf("refused %u: %s\n", w.refused, slp_refusal_words(w.refused).text);
+}
+
 int main(void)
 {
 	mask_frames();
@@ -266,5 +281,7 @@ int main(void)
 	record_live();
 	write_and_read_map();
 	show_rows();
+	name_columns();
+	say_why();
 	return 0;
 }

@@ -24,7 +24,9 @@ use Rattle.game.specs.declared.Game.{Game}
 use Rattle.ser.specs.declared.written.Written.{Written}
 use Rattle.answers.specs.declared.SlpWritten.{SlpWritten}
 use Rattle.answers.specs.Answers.{writtenStruct, written, appendedStruct, appendedAs, keepOf}
-use Rattle.slp.specs.Columns.{storeColumns}
+use Rattle.names.specs.Names.{noColumn, described}
+use Rattle.names.specs.declared.columns.Described.{Described}
+use Rattle.slp.specs.Columns.{storeColumns, storeColumn}
 use Rattle.slp.specs.Outcomes.{MaskOutcome, WriteOutcome, AppendOutcome}
 
 pub mask-outcome : {ids mask scratch ma sa : List ℕ} {keep : Rollbacks} {k number : ℕ} {answer : Masked} →
@@ -53,3 +55,9 @@ no-columns v n h = rw (lt-ltb 7 n h)
 
 pub some-columns : (v : Version) (n k : ℕ) (family : Family) → n ≤ 7 → family ≡ familyOf n → k ≡ length (widthsOf family v) → k ≡ storeColumns v n
 some-columns v n k family h f e = rw (le-ltb 7 n h, ← f) e
+
+pub no-column : (n k : ℕ) {r : Described} → 7 < n → r ≡ noColumn → r ≡ storeColumn n k
+no-column n k h e = rw (lt-ltb 7 n h) e
+
+pub some-column : (n k : ℕ) {family : Family} {r : Described} → n ≤ 7 → family ≡ familyOf n → r ≡ described family k → r ≡ storeColumn n k
+some-column n k h f e = rw (le-ltb 7 n h, ← f) e

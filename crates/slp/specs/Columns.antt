@@ -1,4 +1,4 @@
--- How many columns a store has.
+-- How many columns a store has, and what each of them is.
 -- Assumes nothing.
 use Prim.Native.Nat.{ℕ}
 use mathlib.Core.Bool.{cond}
@@ -7,7 +7,13 @@ use lib.ListN.{length}
 use Rattle.format.specs.declared.version.Version.{Version}
 use Rattle.layout.specs.Columns.{widthsOf}
 use Rattle.run_rows.specs.Run.{familyOf}
+use Rattle.names.specs.Names.{noColumn, described}
+use Rattle.names.specs.declared.columns.Described.{Described}
 
 -- how many columns a family's store has; the families are numbered by their stores
 abbrev pub storeColumns : Version → ℕ → ℕ
 storeColumns v family = cond (ltb 7 family) 0 (length (widthsOf (familyOf family) v))
+
+-- column n of a family's store
+abbrev pub storeColumn : ℕ → ℕ → Described
+storeColumn family n = cond (ltb 7 family) noColumn (described (familyOf family) n)

@@ -12,4 +12,5 @@ pub mod recorder;
 pub mod reserve;
 pub mod runs;
 pub mod store_columns;
+pub mod words;
 pub mod writer;

@@ -37,10 +37,54 @@ impl Family {
 		unsafe { raw::slp_columns(version, self as u8) }
 	}
 
+	/// What the column of a number is; None where the family has none of this number. The numbers are those of [`columns`](self).
+	///
+	/// ```
+	/// use slp::{columns, Family, Kind};
+	/// let percent = Family::Post.column(columns::post::PERCENT).unwrap();
+	/// assert_eq!((&percent.name[..], percent.width, percent.kind, percent.since), ("percent", 4, Kind::Float, (0, 0)));
+	/// assert_eq!(Family::Post.column(columns::post::COLUMNS), None);
+	/// ```
+	pub fn column(self, number: usize) -> Option<Described> {
+		// SAFETY: the call takes every number and touches no memory of ours.
+		let column = unsafe { raw::slp_column(self as u8, number) };
+		let kind = match column.kind {
+			b'f' => Kind::Float,
+			b'i' => Kind::Signed,
+			_ => Kind::Unsigned,
+		};
+		let since = (column.major, column.minor);
+		(column.refused == 0).then(|| Described { name: raw::text_of(&column.name), width: column.width, kind, since })
+	}
+
 	/// How many cells a row has in [`crate::rows::run`]: one a column, and for a player's row one more, its mark.
 	pub fn row_cells(self, version: Version) -> usize {
 		self.columns(version) + usize::from(matches!(self, Family::Pre | Family::Post))
 	}
+}
+
+/// What the cells of a column are.
+#[derive(Clone, Copy, Debug, PartialEq, Eq)]
+pub enum Kind {
+	/// Numbers.
+	Unsigned,
+	/// Numbers with a sign.
+	Signed,
+	/// Floats by their bits.
+	Float,
+}
+
+/// A column: [`Family::column`] says it.
+#[derive(Clone, Debug, PartialEq, Eq)]
+pub struct Described {
+	/// Its name; the views have methods of this name, but that `type` is `type_id` there.
+	pub name: String,
+	/// Its bytes in a file.
+	pub width: u8,
+	/// What its cells are.
+	pub kind: Kind,
+	/// The first version that has it.
+	pub since: (u8, u8),
 }
 
 /// A column's values by their bits: what the rows have as fields.

@@ -29,11 +29,11 @@
 mod game;
 mod lengths;
 mod records;
-mod refusals;
 mod stores;
 
 mod plan;
 mod raw;
+mod refusals;
 
 mod append;
 pub mod columns;
@@ -54,7 +54,7 @@ mod views;
 
 pub use append::{write_frame, write_frames};
 pub use check::check;
-pub use columns::Family;
+pub use columns::{Described, Family, Kind};
 pub use final_frames::write_final;
 pub use game::*;
 pub use index::{accepts_index, find_frame, index, index_len, write_index, Moment};

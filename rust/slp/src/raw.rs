@@ -8,6 +8,26 @@ use crate::{
 };
 
 #[repr(C)]
+pub struct Words {
+	pub text: [u8; 128],
+}
+
+#[repr(C)]
+pub struct Described {
+	pub refused: u8,
+	pub width: u8,
+	pub kind: u8,
+	pub major: u8,
+	pub minor: u8,
+	pub name: [u8; 32],
+}
+
+/// The bytes before the first zero. All texts of the library are ASCII.
+pub fn text_of(bytes: &[u8]) -> String {
+	bytes.iter().take_while(|&&byte| byte != 0).map(|&byte| char::from(byte)).collect()
+}
+
+#[repr(C)]
 pub struct Step {
 	pub kind: u8,
 	pub refused: u8,
@@ -123,6 +143,10 @@ pub struct Answer<T> {
 }
 
 extern "C" {
+	pub fn slp_refusal_words(number: u8) -> Words;
+
+	pub fn slp_column(family: u8, n: usize) -> Described;
+
 	pub fn slp_columns(version: Version, family: u8) -> usize;
 
 	pub fn slp_pre_of(cells: *const u32, cells_len: usize, version: Version, present: u32) -> records::Pre;

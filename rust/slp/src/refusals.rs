@@ -1,38 +1,8 @@
 //! Refusals: an error with a number, words and a place.
 
-use std::{error, fmt};
+use std::{error, fmt, sync::OnceLock};
 
-/// The words of each refusal, by its number; the same as those of the tool `slp`. Numbers that no call gives have none.
-const WORDS: [&str; 28] = [
-	"accepted",
-	"the version is above 3.18.0",
-	"a count exceeds its maximum",
-	"a cell store's length is not columns times rows",
-	"a cell exceeds its column's width",
-	"offsets do not lead through the rows, or the version has no such rows",
-	"presence bits do not match the frames",
-	"there are over four ports or eight slots, a port above 3, or a port twice",
-	"the start block is too short for the version, or over 65,535 bytes",
-	"a start field is missing, a player type or text is out of its limits, or a text has a zero inside",
-	"cheat codes before 3.3, or not padded to blocks of 512 bytes",
-	"a double end without an end, or an initiator who is no player",
-	"the output is too short",
-	"a frame id, frame or row is out of range",
-	"not a replay: under 15 bytes, or a wrong signature",
-	"the table of payload sizes is absent, not whole, or damaged",
-	"an event whose code is not in the table of payload sizes",
-	"an event that runs past the end of the event data",
-	"",
-	"not a replay that can be read into columns",
-	"a map more than 8 deep in the metadata",
-	"a key or text of over 255 bytes in the metadata",
-	"a key twice in one map of the metadata",
-	"metadata that is no map of texts, numbers and maps",
-	"a replay without an index: below 2.2, its first event no GameStart, or a FrameStart without an id",
-	"not an index: its mark, version or length is wrong",
-	"the index of another replay",
-	"no frame has this id",
-];
+use crate::raw;
 
 /// Why a call was refused with this number, in words.
 ///
@@ -40,7 +10,11 @@ const WORDS: [&str; 28] = [
 /// assert_eq!(slp::refusal_words(8), "the start block is too short for the version, or over 65,535 bytes");
 /// ```
 pub fn refusal_words(number: u8) -> &'static str {
-	WORDS.get(usize::from(number)).copied().filter(|words| !words.is_empty()).unwrap_or("for a reason that is not known here")
+	// asked for once, as those of every number are the library's
+	static WORDS: OnceLock<Vec<String>> = OnceLock::new();
+	// SAFETY: the call takes every number and touches no memory of ours.
+	let words = WORDS.get_or_init(|| (0..=u8::MAX).map(|n| raw::text_of(&unsafe { raw::slp_refusal_words(n) }.text)).collect());
+	&words[usize::from(number)]
 }
 
 /// A call that was refused: the lowest number that applies, and the place that it names.

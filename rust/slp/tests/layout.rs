@@ -34,6 +34,27 @@ fn the_newest_version_has_all() {
 }
 
 #[test]
+fn columns_are_described() {
+	let families = [
+		Family::FrameStart,
+		Family::Pre,
+		Family::Post,
+		Family::FrameEnd,
+		Family::Item,
+		Family::FodPlatform,
+		Family::DreamlandWhispy,
+		Family::StadiumTransformation,
+	];
+	for family in families {
+		let count = (0..).take_while(|&n| family.column(n).is_some()).count();
+		assert_eq!(count, family.columns(version(3, 18)));
+		assert_eq!(family.column(usize::MAX), None);
+	}
+	let owner = Family::Item.column(columns::item::OWNER).unwrap();
+	assert_eq!((owner.name.as_str(), owner.width, owner.kind, owner.since), ("owner", 1, slp::Kind::Signed, (3, 6)));
+}
+
+#[test]
 fn events_start_after_the_table() {
 	let mut file = [0; 20];
 	assert_eq!(slp::first_place(&[]), 17);

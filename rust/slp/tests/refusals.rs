@@ -45,11 +45,9 @@ fn the_lowest_number_is_given() {
 
 #[test]
 fn every_number_has_words() {
-	let words: Vec<&str> = (0..=18).map(slp::refusal_words).collect();
-	let unknown = words[18];
-	assert!(words[..18].iter().all(|&w| w != unknown));
-	assert!((19..=23).all(|number| slp::refusal_words(number) != unknown));
-	assert_eq!(slp::refusal_words(255), unknown);
+	let unknown = slp::refusal_words(255);
+	assert!((0..=27).all(|number| slp::refusal_words(number) != unknown));
+	assert!((28..=255).all(|number| slp::refusal_words(number) == unknown));
 }
 
 #[test]

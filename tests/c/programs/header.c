@@ -14,6 +14,8 @@ _Static_assert(sizeof(slp_moment) == 24 && offsetof(slp_moment, row) == 8 && off
 _Static_assert(sizeof(slp_written) == 16 && offsetof(slp_written, len) == 8, "slp_written");
 _Static_assert(sizeof(slp_appended) == 16 && offsetof(slp_appended, end) == 8, "slp_appended");
 _Static_assert(sizeof(slp_closed) == 24 && offsetof(slp_closed, events) == 8 && offsetof(slp_closed, end) == 16, "slp_closed");
+_Static_assert(sizeof(slp_words) == 128, "slp_words");
+_Static_assert(sizeof(slp_column_answer) == 37 && offsetof(slp_column_answer, kind) == 2 && offsetof(slp_column_answer, minor) == 4 && offsetof(slp_column_answer, name) == 5, "slp_column_answer");
 _Static_assert(sizeof(slp_field) == 5 && offsetof(slp_field, bytes) == 1, "slp_field");
 
 _Static_assert(sizeof(slp_entry) == 20 && offsetof(slp_entry, value) == 12 && SLP_CELLS(3) == 15, "slp_entry");

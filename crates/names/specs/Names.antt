@@ -1,0 +1,174 @@
+-- What columns are called and what their cells are, and the words of refusals.
+-- Assumes nothing.
+use Prim.Native.Nat.{ℕ}
+use Prim.Native.String.{String}
+use mathlib.Core.Bool.{cond}
+use mathlib.Core.List.{List, [], _∷_}
+use lib.Dec.{ltb}
+use lib.ListN.{length, getD, replicate}
+use Rattle.layout.specs.Columns.{col, columnsOf}
+use Rattle.layout.specs.declared.columns.Family.{Family}
+use Rattle.layout.specs.declared.columns.Family.the-variants.{Pre, Post, FrameStart, Item, FrameEnd, FodPlatform, DreamlandWhispy, StadiumTransformation}
+use Rattle.names.specs.Bytes.{bytes, filled}
+use Rattle.names.specs.declared.columns.Described.{Described}
+use Rattle.names.specs.declared.refusals.Words.{Words}
+
+-- a column's kind, by the letters u, i and f, and its name
+pub record Naming : Type 0 where
+  pub kind : ℕ
+  pub name : String
+
+abbrev pub unsigned : String → Naming
+unsigned name = record { kind = 0x75; name = name }
+
+abbrev pub signed : String → Naming
+signed name = record { kind = 0x69; name = name }
+
+abbrev pub float : String → Naming
+float name = record { kind = 0x66; name = name }
+
+-- the columns of a family, in the order of its record
+unfoldable pub calledIn : Family → List Naming
+calledIn Pre =
+    unsigned "random_seed" ∷
+    unsigned "state" ∷
+    float "position_x" ∷
+    float "position_y" ∷
+    float "direction" ∷
+    float "joystick_x" ∷
+    float "joystick_y" ∷
+    float "cstick_x" ∷
+    float "cstick_y" ∷
+    float "triggers" ∷
+    unsigned "buttons" ∷
+    unsigned "buttons_physical" ∷
+    float "triggers_physical_l" ∷
+    float "triggers_physical_r" ∷
+    signed "raw_analog_x" ∷
+    float "percent" ∷
+    signed "raw_analog_y" ∷
+    signed "raw_analog_cstick_x" ∷
+    signed "raw_analog_cstick_y" ∷
+    []
+calledIn Post =
+    unsigned "character" ∷
+    unsigned "state" ∷
+    float "position_x" ∷
+    float "position_y" ∷
+    float "direction" ∷
+    float "percent" ∷
+    float "shield" ∷
+    unsigned "last_attack_landed" ∷
+    unsigned "combo_count" ∷
+    unsigned "last_hit_by" ∷
+    unsigned "stocks" ∷
+    float "state_age" ∷
+    unsigned "state_flags_0" ∷
+    unsigned "state_flags_1" ∷
+    unsigned "state_flags_2" ∷
+    unsigned "state_flags_3" ∷
+    unsigned "state_flags_4" ∷
+    float "misc_as" ∷
+    unsigned "airborne" ∷
+    unsigned "ground" ∷
+    unsigned "jumps" ∷
+    unsigned "l_cancel" ∷
+    unsigned "hurtbox_state" ∷
+    float "velocities_self_x_air" ∷
+    float "velocities_self_y" ∷
+    float "velocities_knockback_x" ∷
+    float "velocities_knockback_y" ∷
+    float "velocities_self_x_ground" ∷
+    float "hitlag" ∷
+    unsigned "animation_index" ∷
+    unsigned "last_hit_by_instance" ∷
+    unsigned "instance_id" ∷
+    []
+calledIn FrameStart =
+    unsigned "random_seed" ∷
+    unsigned "scene_frame_counter" ∷
+    []
+calledIn Item =
+    unsigned "type" ∷
+    unsigned "state" ∷
+    float "direction" ∷
+    float "velocity_x" ∷
+    float "velocity_y" ∷
+    float "position_x" ∷
+    float "position_y" ∷
+    unsigned "damage" ∷
+    float "timer" ∷
+    unsigned "id" ∷
+    unsigned "misc_0" ∷
+    unsigned "misc_1" ∷
+    unsigned "misc_2" ∷
+    unsigned "misc_3" ∷
+    signed "owner" ∷
+    unsigned "instance_id" ∷
+    []
+calledIn FrameEnd =
+    signed "latest_finalized_frame" ∷
+    []
+calledIn FodPlatform =
+    unsigned "platform" ∷
+    float "height" ∷
+    []
+calledIn DreamlandWhispy =
+    unsigned "direction" ∷
+    []
+calledIn StadiumTransformation =
+    unsigned "event" ∷
+    unsigned "type" ∷
+    []
+
+-- no column: 13
+abbrev pub noColumn : Described
+noColumn = record { refused = 13; width = 0; kind = 0; major = 0; minor = 0; name = replicate 32 0 }
+
+-- column n of a family: its kind and name beside its width and first version
+unfoldable pub described : Family → ℕ → Described
+described f n =
+    let c = getD (columnsOf f) n (col 0 0 0) in
+    let called = getD (calledIn f) n (unsigned "") in
+    cond (ltb n (length (columnsOf f)))
+    (record { refused = 0; width = c .width; kind = called .kind; major = c .major; minor = c .minor; name = filled 32 (bytes (called .name)) })
+    noColumn
+
+-- why a call was refused, by its number; 18 is the program's, not the library's
+unfoldable pub refusalWords : List String
+refusalWords =
+    "accepted" ∷
+    "the version is above 3.18.0" ∷
+    "a count exceeds its maximum" ∷
+    "a cell store's length is not columns times rows" ∷
+    "a cell exceeds its column's width" ∷
+    "offsets do not lead through the rows, or the version has no such rows" ∷
+    "presence bits do not match the frames" ∷
+    "there are over four ports or eight slots, a port above 3, or a port twice" ∷
+    "the start block is too short for the version, or over 65,535 bytes" ∷
+    "a start field is missing, a player type or text is out of its limits, or a text has a zero inside" ∷
+    "cheat codes before 3.3, or not padded to blocks of 512 bytes" ∷
+    "a double end without an end, or an initiator who is no player" ∷
+    "the output is too short" ∷
+    "a frame id, frame, row or column is out of range" ∷
+    "not a replay: under 15 bytes, or a wrong signature" ∷
+    "the table of payload sizes is absent, not whole, or damaged" ∷
+    "an event whose code is not in the table of payload sizes" ∷
+    "an event that runs past the end of the event data" ∷
+    "the input is over 65,536 bytes" ∷
+    "not a replay that can be read into columns" ∷
+    "a map more than 8 deep in the metadata" ∷
+    "a key or text of over 255 bytes in the metadata" ∷
+    "a key twice in one map of the metadata" ∷
+    "metadata that is no map of texts, numbers and maps" ∷
+    "a replay without an index: below 2.2, its first event no GameStart, or a FrameStart without an id" ∷
+    "not an index: its mark, version or length is wrong" ∷
+    "the index of another replay" ∷
+    "no frame has this id" ∷
+    []
+
+abbrev pub wordsOf : ℕ → String
+wordsOf number = getD refusalWords number "for a reason that is not known here"
+
+abbrev pub worded : ℕ → Words
+worded number = record { text = filled 128 (bytes (wordsOf number)) }

@@ -1,0 +1,29 @@
+// What columns and refusals are called.
+ghost use mathlib.Core.Path.{_≡_};
+ghost use Rattle.names.specs.Names.{worded};
+ghost use Rattle.slp.specs.Columns.{storeColumn};
+use names::columns::Described;
+use names::columns::column;
+use names::columns::no_column;
+use names::refusals::Words;
+use names::refusals::refusal_words;
+use run_rows::family::family_of;
+
+// Column n of a family's store.
+#[no_mangle]
+pub extern "C" fn slp_column(family: u8, n: usize) -> Described
+    ensures { λ r. ⌜ r ≡ storeColumn family n ⌝ }
+{
+    if 7 < family {
+        return no_column();
+    }
+    column(family_of(family), n)
+}
+
+// Why a call was refused.
+#[no_mangle]
+pub extern "C" fn slp_refusal_words(number: u8) -> Words
+    ensures { λ r. ⌜ r ≡ worded number ⌝ }
+{
+    refusal_words(number)
+}
