@@ -132,6 +132,11 @@ target/c/bin/dying.so: tests/c/dying.c Makefile
 	@mkdir -p $(@D)
 	$(CC) $(C11) $(CFLAGS) -fPIC -shared -o $@ $<
 
+# The metadata that costs most.
+target/c/bin/keys: target/c/bench/keys.o $(SLP_LIB)
+	@mkdir -p $(@D)
+	$(CC) $(CFLAGS) $(LDFLAGS) -o $@ $^
+
 # Replays on the disk, walked and read by C: what bench/python.py compares with.
 target/c/bin/files: target/c/bench/files.o $(SHARED_OBJECTS) $(SLP_LIB)
 	@mkdir -p $(@D)

@@ -1016,7 +1016,8 @@ typedef struct {
 
 /* The entries of a body, at the start of a store of `cells` cells; entries past them stay. Keys and texts stand in the body itself, which is their
  * text store. It takes exactly the bodies that slp_write_map gives. The first wrong place decides between 20 and 23; then come 2, and 12 for a store
- * that is too short. Looking for a key twice takes time with the square of a map's entries.
+ * that is too short. Looking for a key twice takes time with the square of a map's entries, and comes before 2: compare the length of a body that no replay
+ * brought with SLP_MAX_METADATA first. Up to there it is at most some tenths of a second.
  *
  *     slp_entry back[8];
  *     slp_map_read r = slp_read_map(body, m.len, back, SLP_CELLS(8));    // r.count is 2, back[0].key is 2
