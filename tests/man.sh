@@ -1,5 +1,5 @@
 #!/bin/bash
-# The man pages and completions that `make man` wrote: no warning, every call and command in them, and what bash completes; zsh and fish read theirs where
+# The man pages and completions that `make man` wrote: no warning, every call and command in them, and what bash completes; what zsh and fish complete where
 # they are installed.
 #   tests/man.sh FOLDER SLP
 set -eu
@@ -40,6 +40,29 @@ completed() {
 [ -z "$(completed slp walk --f)" ] || fail "bash: $(completed slp walk --f)"
 [ "$(completed slp room --fr)" = --frames= ] || fail "bash: $(completed slp room --fr)"
 [ "$(completed slp walk READ)" = README.md ] || fail "bash: $(completed slp walk READ)"
-! command -v zsh >/dev/null || zsh -n "$pages/_slp"
-! command -v fish >/dev/null || fish --no-execute "$pages/slp.fish"
-echo "man: $(echo "$calls" | wc -l) calls in slp(3), $(echo "$commands" | wc -l) commands in slp(1) and in the completions of three shells"
+shells=bash
+
+# what the completion hands to zsh's own functions for a line: the commands, or the options and files
+zsh_completed() {
+	zsh -f -c '_describe() { print -l -- ${${(P)2}%%:*} }; _arguments() { print -rl -- "$@" }; from=$1; shift; words=("$@") CURRENT=$#; . $from' zsh "$pages/_slp" "$@"
+}
+if command -v zsh >/dev/null; then
+	zsh -n "$pages/_slp" || fail 'zsh does not read its completion'
+	[ "$(zsh_completed slp '')" = "$commands" ] || fail "zsh offers not every command: $(zsh_completed slp '')"
+	zsh_completed slp resave --f | grep -q '^--force\[' || fail "zsh: $(zsh_completed slp resave --f)"
+	! zsh_completed slp walk --f | grep -q '^--force\[' || fail "zsh: $(zsh_completed slp walk --f)"
+	zsh_completed slp room --fr | grep -q '^--frames=\[' || fail "zsh: $(zsh_completed slp room --fr)"
+	shells="$shells, zsh"
+fi
+
+# what fish offers for a line
+fish_completed() { fish --no-config -c "source $pages/slp.fish; complete -C '$1'" | cut -f1; }
+if command -v fish >/dev/null; then
+	fish --no-execute "$pages/slp.fish" || fail 'fish does not read its completion'
+	[ "$(fish_completed 'slp res')" = resave ] || fail "fish: $(fish_completed 'slp res')"
+	[ "$(fish_completed 'slp resave --f')" = --force ] || fail "fish: $(fish_completed 'slp resave --f')"
+	[ -z "$(fish_completed 'slp walk --f')" ] || fail "fish: $(fish_completed 'slp walk --f')"
+	[ "$(fish_completed 'slp room --fr')" = --frames ] || fail "fish: $(fish_completed 'slp room --fr')"
+	shells="$shells, fish"
+fi
+echo "man: $(echo "$calls" | wc -l) calls in slp(3), $(echo "$commands" | wc -l) commands in slp(1) and in the completions, tried in $shells"
