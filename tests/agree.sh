@@ -27,16 +27,16 @@ agree 'the refusals of docs/API.md and include/slp.h' api header
 # stand in another order there, so they are sorted; the columns of each stay as they stand.
 "$1" | awk '{ print toupper($1), toupper($2), $3, $4, $5 }' | sort -s -k1,1 >$to/said
 cut -d' ' -f1-3,5 $to/said >$to/columns
-for definition in crates/layout/specs/Columns.antt crates/layout/src/columns.rt; do
-	awk '/^columnsOf .* =$/ { family = $2 } /^    \/\/ [A-Z]/ { family = $2 }
-		/^    col |^    [0-9]_[0-9]*_[0-9]*, / {
-			name = toupper($NF); gsub(/\./, "_", name); f = family; gsub(/[A-Z]/, "_&", f)
-			width = $2; since = $3 "." $4
-			if ($1 != "col") { split($1, part, "_"); width = part[1]; since = part[2] + 0 "." part[3] + 0 }
-			print toupper(substr(f, 2)), name, width, since
-		}' $definition | sort -s -k1,1 >$to/definition
-	agree "the columns of slp_column and $definition" columns definition
-done
+# FAMILY from its name in the crates
+upper='function upper(f) { gsub(/[A-Z]/, "_&", f); return toupper(substr(f, 2)) } function named(n) { gsub(/\./, "_", n); return toupper(n) }'
+awk "$upper"' /^columnsOf .* =$/ { family = upper($2) }
+	/^    col / { print family, named($NF), $2, $3 "." $4 }' crates/layout/specs/Columns.antt | sort -s -k1,1 >$to/definition
+agree 'the columns of slp_column and layout/specs/Columns.antt' columns definition
+# the table of the code has names beside its numbers, which are proved
+awk "$upper"' /^    \/\/ [A-Z][A-Za-z]*$/ { family = upper($2) }
+	/^    [0-9_]*, \/\/ / { print family, named($NF) }' crates/layout/src/columns.rt | sort -s -k1,1 >$to/table
+cut -d' ' -f1-2 $to/said >$to/column-names
+agree 'the columns of slp_column and layout/src/columns.rt' column-names table
 awk 'NR == FNR { families[$1]; next }
 	/^\tSLP_[A-Z0-9_]*, *\/\* [124](, from [0-9.]*)? \*\/$/ {
 		name = substr($1, 5, length($1) - 5); best = ""

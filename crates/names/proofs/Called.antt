@@ -9,14 +9,14 @@ use native.Mathlib.Omega.{arith}
 use borrow.Author.Tests.{lt-ltb, le-ltb}
 use lib.Dec.{T, eqb, leb, leb→le}
 use lib.ListN.{length, getD, drop, replicate, length-map, length-drop, List·getD-map}
-use lib.Seq.{drop-nil, drop-append-add}
+use lib.Seq.{drop-append-add}
 use Rattle.wire.specs.Wire.{Room, Wrote}
 use Rattle.layout.specs.Columns.{col, columnsOf}
 use Rattle.layout.specs.Inner.{countOf}
 use Rattle.layout.specs.declared.columns.Column.{Column}
 use Rattle.layout.specs.declared.columns.Family.{Family}
 use Rattle.layout.proofs.Laws.{each, both, both-left, both-right, count-is}
-use Rattle.names.specs.Bytes.{bytes, filled}
+use Rattle.names.specs.Bytes.{bytes}
 use Rattle.names.specs.Names.{Naming, unsigned, calledIn, noColumn, described}
 use Rattle.names.specs.Inner.{firstLine, linesFrom, line, calledAs, calledOf}
 use Rattle.names.specs.declared.columns.Called.{Called}

@@ -1,3 +1,4 @@
 pub mod Called
+pub mod Plain
 pub mod Said
 pub mod Texts

@@ -2,14 +2,13 @@
 -- Assumes nothing.
 use mathlib.Core.Path.{_≡_, refl, sym, ap, _∙_}
 use mathlib.Core.List.{List, [], _∷_, map}
-use Prim.Native.Nat.{ℕ, _+_, _≤_, _<_}
-use Prim.Native.String.{String}
+use Prim.Native.Nat.{ℕ, _≤_, _<_}
 use native.Mathlib.Decide.{decLt}
 use native.Mathlib.Omega.{arith}
 use lib.Dec.{T, lit≤}
 use lib.ListN.{length, getD, replicate, length-map, List·getD-map, List·getD-eq-default}
 use Rattle.wire.specs.Wire.{Room, Wrote}
-use Rattle.names.specs.Bytes.{bytes, filled}
+use Rattle.names.specs.Bytes.{bytes}
 use Rattle.names.specs.Names.{refusalWords, wordsOf, worded}
 use Rattle.names.specs.Inner.{line}
 use Rattle.names.specs.declared.refusals.Words.{Words}

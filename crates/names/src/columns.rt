@@ -1,7 +1,7 @@
 // What a column is called and what its cells are, beside its width and its first version.
 ghost use mathlib.Core.Path.{_≡_};
 ghost use Prim.Native.Nat.{_<_, _≤_};
-ghost use lib.ListN.{length, getD};
+ghost use lib.ListN.{length};
 ghost use Rattle.layout.specs.Columns.{columnsOf};
 ghost use Rattle.names.specs.Inner.{line, calledAs, calledOf};
 ghost use Rattle.names.specs.Names.{noColumn, described};

@@ -2,7 +2,6 @@
 -- Assumes nothing.
 use Prim.Native.Nat.{_-_}
 use native.Mathlib.Omega.{arith}
-use borrow.Author.Needs.{needs}
 use Rattle.names.proofs.Texts.{PassedTo, passed-start, passed-more, passed-done}
 use Rattle.names.proofs.lines.line_start.Statement.{statement}
 use Rattle.names.proofs.lines.line_start.Tie as tie

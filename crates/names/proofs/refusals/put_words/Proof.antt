@@ -2,7 +2,6 @@
 -- Assumes nothing.
 use native.Mathlib.Omega.{arith}
 use borrow.Author.Needs.{needs}
-use Rattle.wire.proofs.Writers.{wrote-as}
 use Rattle.names.specs.Bytes.{bytes}
 use Rattle.names.specs.Names.{refusalWords}
 use Rattle.names.proofs.Called.{joined}
