@@ -11,7 +11,7 @@ use lib.ListN.{length, getD, drop, length-take, length-drop}
 use Rattle.wire.specs.Wire.{part}
 use Rattle.format.specs.Mark.{yes}
 use Rattle.format.specs.Refusal.{refuse, lowest}
-use Rattle.format.specs.Version.{acceptedOf, gteOf}
+use Rattle.format.specs.Version.{acceptedOf, gteOf, hasInitiator}
 use Rattle.format.specs.declared.version.Version.{Version}
 use Rattle.format.proofs.Refusals.{skip, none, passed, lowest-after}
 use Rattle.format.proofs.Versions.{no-way}
@@ -22,7 +22,7 @@ use Rattle.start.specs.Length.{lengthOf}
 use Rattle.start.specs.Refusal.{blockWrong}
 use Rattle.start_read.proofs.Accepted.{accepted}
 use Rattle.codes.specs.Blocks.{codesWrong}
-use Rattle.ending.specs.End.{hasInitiator, initiatorWrong, endWrong}
+use Rattle.ending.specs.End.{initiatorWrong, endWrong}
 use Rattle.head.specs.Table.{stopOf}
 use Rattle.de.specs.Walk.{walkOf}
 use Rattle.de.specs.Numbers.{walkNumbers}

@@ -1,15 +1,15 @@
 -- Presence in another form: where it says the same of every player in every frame, events, refusals and rows are the same.
 -- Assumes nothing.
 use mathlib.Core.Path.{_≡_, refl, sym, ap, ap₂, subst, _∙_}
-use mathlib.Core.Bool.{Bool, true, false, cond}
+use mathlib.Core.Bool.{Bool, true, false}
 use mathlib.Core.List.{List, [], _∷_, _++_, map, map-append}
-use Prim.Native.Nat.{ℕ, zero, suc, _+_, _-_, _*_, _<_, min}
+use Prim.Native.Nat.{ℕ, zero, suc, _+_, _-_, _<_, min}
 use native.Mathlib.Omega.{arith}
 use borrow.Author.Tests.{ltb-true}
 use lib.Dec.{ltb}
 use lib.ListN.{length, getD, take, length-map, List·getD-map}
 use lib.Seq.{ext-getD}
-use Rattle.wire.specs.Wire.{ranged, keep, tabulate}
+use Rattle.wire.specs.Wire.{ranged, keep}
 use Rattle.wire.proofs.Laws.{ranged-same, tabulate-length}
 use Rattle.format.specs.Event.{codeOf}
 use Rattle.format.specs.File.{Ev}
@@ -20,10 +20,9 @@ use Rattle.layout.specs.declared.columns.Family.{Family}
 use Rattle.layout.specs.declared.columns.Family.the-variants.{Pre, Post, FrameStart, Item, FrameEnd, FodPlatform, DreamlandWhispy, StadiumTransformation}
 use Rattle.game.specs.Frames.{noPort, portsOf, follows, Slot, slot, noSlot, portSlots, portBytes, slotsFrom, slotsOf, rowsOf, slotBlocks}
 use Rattle.game.specs.Stores.{Lent, Cells, cellsOf}
-use Rattle.game.specs.declared.Game.{Game}
 use Rattle.game.specs.declared.frames.Frames.{Frames}
 use Rattle.game.specs.declared.frames.PortColumn.{PortColumn}
-use Rattle.players.specs.Presence.{presentAt, slotsBefore}
+use Rattle.players.specs.Presence.{slotsBefore}
 use Rattle.players.proofs.SlotLaws.{leader-slot, follower-slot}
 use Rattle.frames.specs.Judge.{tooMany, misfits, storesMisfit, exceeds, cellsExceed, misleads, offsetsMislead, portNumbers, portsWrong, refusals}
 use Rattle.events.specs.Events.{playerHead, idOf, rowOf, oneEvent, rowEvents, playerEvents, frameEvents, framesEvents}
@@ -37,7 +36,7 @@ use Rattle.transpose.proofs.Judged.{row-judged, reachable}
 use Rattle.run_rows.specs.Run.{familyOf, runRow, noRun, runCells, runRefusal}
 use Rattle.run_rows.specs.Inner.{runRefused}
 use Rattle.run_rows.proofs.Judged.{run-judged, running}
-use Rattle.apart.specs.Card.{slotPort, columnPort, SamePlayers, SamePresence}
+use Rattle.apart.specs.Card.{slotPort, SamePlayers, SamePresence}
 
 -- ---- what players are, without their presence bytes
 

@@ -11,10 +11,10 @@ use lib.ListN.{length, getD, replicate}
 use lib.Seq.{getD-append-add}
 use Rattle.wire.specs.Wire.{be, ranged, tabulate, keep}
 use Rattle.format.specs.File.{Ev, entriesBytes, tableBytes}
-use Rattle.format.specs.Refusal.{lowest, oneOf}
-use Rattle.format.specs.Version.{version, above, gteOf, acceptedOf}
+use Rattle.format.specs.Refusal.{lowest}
+use Rattle.format.specs.Version.{version, above, gteOf}
 use Rattle.format.proofs.Refusals.{skip, none, lowest-after}
-use Rattle.layout.specs.Columns.{columnsOf, chosen, sum, hasFamily}
+use Rattle.layout.specs.Columns.{columnsOf, chosen, hasFamily}
 use Rattle.layout.specs.Payloads.{endSize, listed, payloadSize, entriesOf}
 use Rattle.layout.specs.declared.columns.Family.the-variants.{Pre, Post}
 use Rattle.game.specs.Frames.{noPort, noSlot, portsOf, portSlots, portBytes, slotsFrom, slotsOf}
@@ -22,9 +22,8 @@ use Rattle.game.specs.Stores.{cells, offsets, lent, Stores, stores}
 use Rattle.game.specs.declared.Game.{Game}
 use Rattle.game.specs.declared.frames.Frames.{Frames}
 use Rattle.game.specs.declared.frames.PortColumn.{PortColumn}
-use Rattle.players.specs.Presence.{marked, presentAt, countFrom, playersPresent, uneven, portUneven, portsUneven, presenceWrong}
-use Rattle.frames.specs.Judge.{tooMany, misfits, storesMisfit, columnsExceed, blocksExceed, exceeds, cellsExceed, refusals}
-use Rattle.frames.specs.Judge.{falls, strays, leftOver, misleads, offsetsMislead, portNumbers, twice, portsWrong}
+use Rattle.players.specs.Presence.{marked, presentAt, countFrom, playersPresent}
+use Rattle.frames.specs.Judge.{refusals}
 use Rattle.frames.proofs.Accepted.{numbered}
 use Rattle.record.specs.Record.{cellsBytes}
 use Rattle.codes.specs.Blocks.{codeEvents}
@@ -40,6 +39,7 @@ use Rattle.cases.specs.Games.{plainStart, gameWith}
 use Rattle.cases.proofs.Computed.{total-of}
 use Rattle.cases.proofs.Examples.{passed}
 use Rattle.apart.specs.Card.{slotPort, columnPort, SameElsewhere, SamePlayers, SamePresence, Agree}
+use Rattle.frames.proofs.Opens.{opens-columns, opens-refusals, opens-slots}
 
 -- one frame at 3.18, where Pre has 19 columns and Post 32: port 1 with a follower, and port 3, whose leader may have a byte of presence bits
 abbrev portColumn : ℕ → ℕ → ℕ → PortColumn
@@ -156,7 +156,7 @@ framed :
     × (lowest (refusals (frames 1) (played 0 (1 ∷ []) .lent) 0 0) ≡ 0)
     × (lowest (refusals (frames 1) (played 0 (0 ∷ []) .lent) 0 0) ≡ 0)
     × (lowest (refusals (frames 1) (played 1 (255 ∷ []) .lent) 0 0) ≡ 0)
-unfolding refusals lowest oneOf tooMany storesMisfit misfits cellsExceed exceeds blocksExceed columnsExceed offsetsMislead misleads strays leftOver falls presenceWrong portsUneven portUneven uneven portsWrong portNumbers twice slotsOf slotsFrom portsOf portSlots portBytes tabulate keep sum chosen columnsOf hasFamily acceptedOf above gteOf
+unfolding opens-refusals
 framed = (refl, refl, refl, refl, refl)
 
 judged-none : (presence n : ℕ) (bits : List ℕ) → lowest (refusals (frames presence) (played n bits .lent) 0 0) ≡ 0 → lowest (judged (game presence) (played n bits)) ≡ 0
@@ -184,7 +184,7 @@ abbrev lowByte : List Ev → ℕ
 lowByte es = getD (getD es 2 noEv .payload) 9 0
 
 low-bytes : (lowByte (events (game 0) (played 0 [])) ≡ 0) × (lowByte (events (game 0) (played 1 [])) ≡ 1)
-unfolding events codeEvents framesEvents ranged frameEvents oneEvent rowEvents playerEvents cellsBytes be keep marked hasFamily gteOf above chosen columnsOf slotsOf slotsFrom portsOf portSlots portBytes tabulate
+unfolding opens-slots events codeEvents framesEvents ranged frameEvents oneEvent rowEvents playerEvents cellsBytes be keep marked hasFamily gteOf above chosen columnsOf
 low-bytes = (refl, refl)
 
 pub files-differ : file (game 0) (played 0 []) ≡ file (game 0) (played 1 []) → ⊥
@@ -201,7 +201,7 @@ pub presence-matters :
     × (refusal (game 1) (played 0 (0 ∷ [])) (length (file (game 1) (played 0 (0 ∷ [])))) ≡ 0)
     × (length (file (game 1) (played 0 (1 ∷ []))) ≡ 1287)
     × (length (file (game 1) (played 0 (0 ∷ []))) ≡ 1135)
-unfolding rawLength tableBytes entriesBytes entriesOf listed payloadSize be hasFamily gteOf above chosen columnsOf sum endSize framesLength playersPresent countFrom marked slotsOf slotsFrom portsOf portSlots portBytes tabulate keep
+unfolding opens-columns opens-slots rawLength tableBytes entriesBytes entriesOf listed payloadSize be endSize framesLength playersPresent countFrom marked
 presence-matters =
     let x = judged-none 1 0 (1 ∷ []) (framed .2) in
     let y = judged-none 1 0 (0 ∷ []) (framed .3) in

@@ -241,8 +241,13 @@ rows-apart {f} {h} {port} {s} {t} p a x y =
       post = λ slot index ne. post-with f port s pres posts (a .pres) (a .posts) x near slot index ne ∙ post-same f ps sp mid bits q near far slot index;
       item = λ index. ap (λ (n : ℕ). rowAnswer itemAnswer n (itemOf (cellsAt f Item (s .cells .items) 0 index) (f .version)) noItem) (one-refusal f port s pres posts (a .pres) (a .posts) x near Item 0 index) ∙ item-same f ps sp mid bits q near far index;
       fod-platform = λ index. ap (λ (n : ℕ). rowAnswer fodPlatformAnswer n (fodPlatformOf (cellsAt f FodPlatform (s .cells .fods) 0 index) (f .version)) noFodPlatform) (one-refusal f port s pres posts (a .pres) (a .posts) x near FodPlatform 0 index) ∙ fod-same f ps sp mid bits q near far index;
-      dreamland-whispy = λ index. ap (λ (n : ℕ). rowAnswer dreamlandWhispyAnswer n (dreamlandWhispyOf (cellsAt f DreamlandWhispy (s .cells .whispys) 0 index) (f .version)) noDreamlandWhispy) (one-refusal f port s pres posts (a .pres) (a .posts) x near DreamlandWhispy 0 index) ∙ whispy-same f ps sp mid bits q near far index;
-      stadium-transformation = λ index. ap (λ (n : ℕ). rowAnswer stadiumTransformationAnswer n (stadiumTransformationOf (cellsAt f StadiumTransformation (s .cells .stadiums) 0 index) (f .version)) noStadiumTransformation) (one-refusal f port s pres posts (a .pres) (a .posts) x near StadiumTransformation 0 index) ∙ stadium-same f ps sp mid bits q near far index;
+      dreamland-whispy =
+          λ index. ap (λ (n : ℕ). rowAnswer dreamlandWhispyAnswer n (dreamlandWhispyOf (cellsAt f DreamlandWhispy (s .cells .whispys) 0 index) (f .version)) noDreamlandWhispy)
+          (one-refusal f port s pres posts (a .pres) (a .posts) x near DreamlandWhispy 0 index) ∙ whispy-same f ps sp mid bits q near far index;
+      stadium-transformation =
+          λ index. ap
+          (λ (n : ℕ). rowAnswer stadiumTransformationAnswer n (stadiumTransformationOf (cellsAt f StadiumTransformation (s .cells .stadiums) 0 index) (f .version)) noStadiumTransformation)
+          (one-refusal f port s pres posts (a .pres) (a .posts) x near StadiumTransformation 0 index) ∙ stadium-same f ps sp mid bits q near far index;
       frame = λ index. subst (λ (r : FrameRow). FrameApart f port (frameRow f s index) r) (frame-row-same f ps sp mid bits q near far index) (frame-with f port s pres posts (a .pres) (a .posts) x near index);
       run = λ number slot i j ne {out} o1 o2.
           run-outcome number slot i j

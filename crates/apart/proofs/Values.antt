@@ -3,10 +3,8 @@
 use Prim.Native.Nat.{ℕ}
 use mathlib.Core.Path.{_≡_, refl}
 use mathlib.Core.List.{List}
-use Rattle.layout.specs.declared.columns.Family.the-variants.{Pre, Post}
 use Rattle.game.specs.Stores.{Lent}
 use Rattle.game.specs.declared.frames.Frames.{Frames}
-use Rattle.transpose.specs.Judge.{rowRefusal}
 use Rattle.transpose.specs.Records.{markAt}
 use Rattle.transpose.specs.Ports.{dataAt}
 use Rattle.transpose.specs.Answers.{unlessRefused, preRow, postRow}

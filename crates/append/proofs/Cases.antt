@@ -6,24 +6,23 @@ use Prim.Native.Nat.{ℕ, _+_}
 use native.Mathlib.Omega.{arith}
 use lib.Dec.{ltb}
 use lib.ListN.{length, getD, take, drop, replicate}
-use Rattle.wire.specs.Wire.{be, splice, ranged, keep, tabulate}
+use Rattle.wire.specs.Wire.{be, splice, ranged}
 use Rattle.format.specs.File.{eventsBytes}
-use Rattle.format.specs.Refusal.{refuse, lowest, oneOf}
-use Rattle.format.specs.Version.{version, above, gteOf, acceptedOf}
+use Rattle.format.specs.Refusal.{refuse, lowest}
+use Rattle.format.specs.Version.{version}
 use Rattle.format.specs.declared.version.Version.{Version}
-use Rattle.layout.specs.Columns.{columnsOf, chosen, sum, hasFamily}
-use Rattle.game.specs.Frames.{portsOf, portSlots, portBytes, slotsFrom, slotsOf}
 use Rattle.game.specs.Stores.{Lent, cells, offsets, lent}
 use Rattle.game.specs.declared.frames.PortColumn.{PortColumn}
 use Rattle.game.specs.declared.frames.Frames.{Frames}
-use Rattle.players.specs.Presence.{marked, uneven, portUneven, portsUneven, presenceWrong}
-use Rattle.frames.specs.Judge.{tooMany, misfits, storesMisfit, columnsExceed, blocksExceed, exceeds, cellsExceed, falls, strays, leftOver, misleads, offsetsMislead, portNumbers, twice, portsWrong, refusals}
+use Rattle.players.specs.Presence.{marked}
+use Rattle.frames.specs.Judge.{refusals}
 use Rattle.record.specs.Record.{cellsBytes}
 use Rattle.record.specs.Inner.{headBytes}
 use Rattle.events.specs.Events.{frameEvents, oneEvent, rowEvents, playerEvents}
 use Rattle.append.specs.Run.{runEvents, runBytes, outsideFrames, runRefusal, leftAt}
 use Rattle.append.proofs.Outcomes.{decided}
 use Rattle.append.proofs.Runs.{empty-run}
+use Rattle.frames.proofs.Opens.{opens-columns, opens-refusals, opens-slots}
 
 abbrev leader : ℕ → PortColumn
 leader p = record { port = p; follower = 0; «leader_presence» = 0; «follower_presence» = 0 }
@@ -48,11 +47,11 @@ good = stored 7 (replicate 22 0)
 
 -- the game is accepted, and these are the lengths of its runs
 accepted : lowest (refusals two good 0 0) ≡ 0
-unfolding lowest refusals acceptedOf above gteOf columnsOf chosen sum hasFamily keep tabulate portsOf portSlots portBytes slotsFrom slotsOf oneOf tooMany misfits storesMisfit columnsExceed blocksExceed exceeds cellsExceed falls strays leftOver misleads offsetsMislead uneven portUneven portsUneven presenceWrong portNumbers twice portsWrong
+unfolding opens-refusals
 accepted = refl
 
 lengths : (length (runBytes two good 0 1) ≡ 93) × (length (runBytes two good 1 2) ≡ 93) × (length (runBytes two good 0 2) ≡ 186)
-unfolding runEvents eventsBytes be ranged keep tabulate frameEvents oneEvent rowEvents playerEvents cellsBytes headBytes marked above gteOf columnsOf chosen sum hasFamily portsOf portSlots portBytes slotsFrom slotsOf
+unfolding opens-columns opens-slots runEvents eventsBytes be ranged frameEvents oneEvent rowEvents playerEvents cellsBytes headBytes marked
 lengths = (refl, refl, refl)
 
 none : (a : ℕ) → length (runBytes two good a a) ≡ 0
@@ -115,7 +114,7 @@ judged-first :
     × (runRefusal (input (version 0 1 0) 1048577) good 1 0 9 0 ≡ 2)
     × (runRefusal two (stored 7 (replicate 21 0)) 1 0 9 0 ≡ 3)
     × (runRefusal two (stored 7 (256 ∷ replicate 21 0)) 1 0 9 0 ≡ 4)
-unfolding runRefusal outsideFrames runEvents eventsBytes be ranged keep tabulate frameEvents oneEvent rowEvents playerEvents cellsBytes headBytes marked lowest refusals acceptedOf above gteOf columnsOf chosen sum hasFamily portsOf portSlots portBytes slotsFrom slotsOf oneOf tooMany misfits storesMisfit columnsExceed blocksExceed exceeds cellsExceed falls strays leftOver misleads offsetsMislead uneven portUneven portsUneven presenceWrong portNumbers twice portsWrong
+unfolding opens-refusals runRefusal outsideFrames runEvents eventsBytes be ranged frameEvents oneEvent rowEvents playerEvents cellsBytes headBytes marked
 judged-first = (refl, refl, refl, refl)
 
 -- the first bytes of each frame's two records: Pre and Post with frame id, port and follower, and a Pre's random seed
@@ -123,12 +122,12 @@ heads :
     (take 11 (runBytes two good 0 1) ≡ 0x37 ∷ 0 ∷ 0 ∷ 0 ∷ 5 ∷ 0 ∷ 0 ∷ 0 ∷ 0 ∷ 0 ∷ 7 ∷ [])
     × (take 11 (runBytes two good 1 2) ≡ 0x37 ∷ 0 ∷ 0 ∷ 0 ∷ 6 ∷ 0 ∷ 0 ∷ 0 ∷ 0 ∷ 0 ∷ 0 ∷ [])
     × (take 7 (drop 59 (runBytes two good 1 2)) ≡ 0x38 ∷ 0 ∷ 0 ∷ 0 ∷ 6 ∷ 0 ∷ 0 ∷ [])
-unfolding runEvents eventsBytes be ranged keep tabulate frameEvents oneEvent rowEvents playerEvents cellsBytes headBytes marked above gteOf columnsOf chosen sum hasFamily portsOf portSlots portBytes slotsFrom slotsOf
+unfolding opens-columns opens-slots runEvents eventsBytes be ranged frameEvents oneEvent rowEvents playerEvents cellsBytes headBytes marked
 heads = (refl, refl, refl)
 
 -- the last frame alone between two bytes that stay
 between-bytes : leftAt 0 (8 ∷ (replicate 93 1 ++ (9 ∷ []))) 1 (runBytes two good 1 2) ≡ 8 ∷ (runBytes two good 1 2 ++ (9 ∷ []))
-unfolding splice runEvents eventsBytes be ranged keep tabulate frameEvents oneEvent rowEvents playerEvents cellsBytes headBytes marked above gteOf columnsOf chosen sum hasFamily portsOf portSlots portBytes slotsFrom slotsOf
+unfolding opens-columns opens-slots splice runEvents eventsBytes be ranged frameEvents oneEvent rowEvents playerEvents cellsBytes headBytes marked
 between-bytes = refl
 
 -- two runs of one length with different bytes
@@ -136,7 +135,7 @@ compared :
     (length (runBytes two good 0 1) ≡ length (runBytes two good 1 2))
     × (getD (runBytes two good 0 1) 4 0 ≡ 5)
     × (getD (runBytes two good 1 2) 4 0 ≡ 6)
-unfolding runEvents eventsBytes be ranged keep tabulate frameEvents oneEvent rowEvents playerEvents cellsBytes headBytes marked above gteOf columnsOf chosen sum hasFamily portsOf portSlots portBytes slotsFrom slotsOf
+unfolding opens-columns opens-slots runEvents eventsBytes be ranged frameEvents oneEvent rowEvents playerEvents cellsBytes headBytes marked
 compared = (refl, refl, refl)
 
 pub two-runs : (length (runBytes two good 0 1) ≡ length (runBytes two good 1 2)) × (runBytes two good 0 1 ≡ runBytes two good 1 2 → ⊥)

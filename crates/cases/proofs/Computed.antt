@@ -9,42 +9,31 @@ use Prim.Native.Nat.{ℕ, zero, suc, _+_, _<_}
 use native.Mathlib.Omega.{arith}
 use lib.Dec.{T, ltb, eqb, eqb→eq, eqb·suc-zero}
 use lib.ListN.{length, getD}
-use Rattle.wire.specs.Wire.{be, more, part, splice, ranged, tabulate, keep}
-use Rattle.format.specs.File.{entriesBytes, tableBytes, eventsBytes, fileOf}
+use Rattle.wire.specs.Wire.{keep}
 use Rattle.format.specs.FrameId.{placeOf}
 use Rattle.format.specs.Mark.{yes}
-use Rattle.format.specs.Refusal.{refuse, lowest, oneOf}
-use Rattle.format.specs.Version.{above, gteOf, acceptedOf}
-use Rattle.layout.specs.Columns.{columnsOf, chosen, sum, hasFamily}
-use Rattle.layout.specs.Payloads.{endSize, listed, payloadSize, entriesOf}
-use Rattle.game.specs.Frames.{portsOf, portSlots, portBytes, slotsFrom, slotsOf}
-use Rattle.players.specs.Presence.{marked, countFrom, playersPresent, uneven, portUneven, portsUneven, presenceWrong}
-use Rattle.frames.specs.Judge.{tooMany, misfits, storesMisfit, columnsExceed, blocksExceed, exceeds, cellsExceed, falls, strays, leftOver, misleads, offsetsMislead, portNumbers, twice, portsWrong, refusals}
-use Rattle.start.specs.Length.{reached, lengthOf}
-use Rattle.start.specs.Refusal.{blockWrong, missing, tooLong, holdsZero, badSeat, badStart}
-use Rattle.patch.specs.Field.{zeroInside}
-use Rattle.patch.specs.Patch.{patched}
-use Rattle.start.specs.Block.{gameFields, seatsFields, modeFields, matchFields, fields, startBlock}
-use Rattle.codes.specs.Blocks.{blockCount, used, lastFlag, codesWrong, codeEvents, codeBlock}
-use Rattle.ending.specs.End.{endEvents, endOf, initiatorWrong, endWrong}
-use Rattle.ending.specs.Tail.{tailOf}
-use Rattle.events.specs.Events.{framesEvents, frameEvents, oneEvent, rowEvents, playerEvents}
+use Rattle.format.specs.Refusal.{refuse, lowest}
+use Rattle.players.specs.Presence.{marked, countFrom, playersPresent}
+use Rattle.codes.specs.Blocks.{blockCount, used, lastFlag, codeBlock}
+use Rattle.ending.specs.End.{endOf}
+use Rattle.events.specs.Events.{frameEvents, oneEvent, rowEvents, playerEvents}
 use Rattle.events.specs.Length.{framesLength}
 use Rattle.rollback.specs.Mask.{occurs, maskOf, needed, allInRange, answerOf}
 use Rattle.format.proofs.Refusals.{lowest-before}
 use Rattle.layout.proofs.Laws.{both, both-left, both-right}
-use Rattle.head.specs.Table.{declared, startsWith, stopOf, allPresent, entriesIn, tableOf, spanOf, codeTwice, tableMissing, unsigned, untabled, headRefusal}
-use Rattle.head.specs.Step.{eventIn, stepIn, stepOf}
-use Rattle.de.specs.Walk.{run, walkOf}
+use Rattle.head.specs.Table.{declared}
+use Rattle.de.specs.Walk.{walkOf}
 use Rattle.game.specs.declared.Game.{Game}
 use Rattle.game.specs.Stores.{Stores}
-use Rattle.ser.specs.Write.{givenBytes, judged, refusal, events, file}
+use Rattle.ser.specs.Write.{givenBytes, judged, refusal, file}
 use Rattle.ser.specs.Length.{rawLength}
 use Rattle.ser.proofs.Files.{framed, length-raw}
 use Rattle.ser.proofs.Outcomes.{Passed, passes}
 use Rattle.ser.proofs.Steps.{whole, total-is}
 use Rattle.ser.proofs.Sound.{length-field}
 use Rattle.cases.specs.Table.{Question, writing, coding, blocking, walking, masking, numbers, writes, answer, Case, cases, noCase, caseAt, expectedAt}
+use Rattle.de.proofs.Opens.{opens-steps}
+use Rattle.ser.proofs.Opens.{opens-file, opens-judged}
 
 -- ---- a written file's numbers by their formulas
 
@@ -121,7 +110,7 @@ allRight (c ∷ cs) = both (right c) (allRight cs)
 
 -- computed
 test : T (allRight cases)
-unfolding cases rawLength judged refusals lowest oneOf tooMany storesMisfit misfits cellsExceed exceeds blocksExceed columnsExceed offsetsMislead misleads strays leftOver falls presenceWrong portsUneven portUneven uneven portsWrong portNumbers twice slotsOf slotsFrom portsOf portSlots portBytes marked countFrom playersPresent framesLength tabulate ranged keep sum chosen columnsOf hasFamily listed payloadSize entriesOf endSize acceptedOf above gteOf blockWrong lengthOf reached badStart badSeat missing tooLong holdsZero zeroInside codesWrong codeEvents codeBlock blockCount used lastFlag endWrong initiatorWrong endEvents endOf tailOf be more part splice entriesBytes tableBytes eventsBytes fileOf file events framesEvents frameEvents oneEvent rowEvents playerEvents startBlock fields gameFields seatsFields modeFields matchFields patched startsWith stopOf allPresent entriesIn tableOf spanOf codeTwice tableMissing unsigned untabled headRefusal eventIn stepIn stepOf run walkOf placeOf occurs maskOf needed allInRange answerOf
+unfolding opens-judged opens-file opens-steps cases rawLength marked countFrom playersPresent framesLength codeBlock blockCount used lastFlag endOf frameEvents oneEvent rowEvents playerEvents walkOf placeOf occurs maskOf needed allInRange answerOf
 test = tt
 
 -- ---- any case

@@ -7,25 +7,14 @@ use Prim.Native.Nat.{ℕ}
 use native.Mathlib.Omega.{arith}
 use lib.Dec.{lit<}
 use lib.ListN.{length, getD, take, replicate}
-use Rattle.wire.specs.Wire.{be, more, part, splice, ranged, tabulate, keep}
-use Rattle.format.specs.File.{Ev, entriesBytes, tableBytes, eventsBytes, fileOf}
-use Rattle.format.specs.Refusal.{lowest}
-use Rattle.format.specs.Version.{version, above, gteOf}
-use Rattle.layout.specs.Columns.{columnsOf, chosen, sum, hasFamily}
-use Rattle.layout.specs.Payloads.{endSize, listed, payloadSize, entriesOf}
-use Rattle.game.specs.Frames.{portsOf, portSlots, portBytes, slotsFrom, slotsOf}
+use Rattle.format.specs.File.{Ev}
+use Rattle.format.specs.Version.{version}
 use Rattle.players.specs.Presence.{marked}
 use Rattle.record.specs.Record.{cellsBytes}
 use Rattle.record.specs.Inner.{headBytes}
-use Rattle.patch.specs.Patch.{patched}
-use Rattle.start.specs.Block.{gameFields, seatsFields, modeFields, matchFields, fields, startBlock}
-use Rattle.codes.specs.Blocks.{codeEvents}
-use Rattle.ending.specs.End.{endEvents, endOf, placementsOf, placementOf}
-use Rattle.ending.specs.Tail.{tailOf}
-use Rattle.events.specs.Events.{framesEvents, frameEvents, oneEvent, rowEvents, playerEvents}
-use Rattle.head.specs.Table.{startsWith, stopOf, allPresent, entriesIn, tableOf, spanOf, codeTwice, tableMissing, unsigned, untabled, headRefusal}
-use Rattle.head.specs.Step.{eventIn, stepIn, stepOf}
-use Rattle.de.specs.Walk.{run, walkOf}
+use Rattle.ending.specs.End.{endOf, placementsOf, placementOf}
+use Rattle.events.specs.Events.{frameEvents, oneEvent, rowEvents, playerEvents}
+use Rattle.de.specs.Walk.{walkOf}
 use Rattle.de.specs.Cut.{eventsRead}
 use Rattle.de.specs.declared.Walked.the-variants.{Done}
 use Rattle.rollback.specs.Mask.{answerOf, maskNumbers, maskAfter}
@@ -36,6 +25,9 @@ use Rattle.ser.proofs.Outcomes.{Passed, not-refused}
 use Rattle.cases.specs.Games.{gameOf, blockAlone, oneFrame}
 use Rattle.cases.specs.Table.{least, short, fourIds, cases}
 use Rattle.cases.proofs.Computed.{case-holds}
+use Rattle.de.proofs.Opens.{opens-steps}
+use Rattle.frames.proofs.Opens.{opens-slots}
+use Rattle.ser.proofs.Opens.{opens-file}
 
 -- ---- a game that is accepted: 3.18.0 with one frame
 
@@ -59,7 +51,7 @@ computed :
     (length (file oldest (blockAlone block)) ≡ length (file least (blockAlone block)))
     × (getD (file oldest (blockAlone block)) 31 0 ≡ 0)
     × (getD (file least (blockAlone block)) 31 0 ≡ 1)
-unfolding file events fileOf tableBytes entriesBytes eventsBytes be entriesOf chosen listed payloadSize hasFamily gteOf above sum columnsOf endSize startBlock fields gameFields seatsFields modeFields matchFields patched splice codeEvents framesEvents ranged endEvents tailOf keep
+unfolding opens-file
 computed = (refl, refl, refl)
 
 pub two-files : (length (file oldest (blockAlone block)) ≡ length (file least (blockAlone block))) × (file oldest (blockAlone block) ≡ file least (blockAlone block) → ⊥)
@@ -73,7 +65,7 @@ abbrev cutFile : List ℕ
 cutFile = take 900 (file short (oneFrame []))
 
 pub cut-events : (walkOf cutFile ≡ Done 3 12 false 888) × (map (λ (e : Ev). e .code) (eventsRead cutFile) ≡ 0x36 ∷ 0x3A ∷ 0x37 ∷ [])
-unfolding eventsRead file events fileOf tableBytes entriesBytes eventsBytes be entriesOf chosen listed payloadSize hasFamily gteOf above sum columnsOf endSize startBlock fields gameFields seatsFields modeFields matchFields patched splice codeEvents endEvents endOf placementsOf placementOf tailOf keep framesEvents ranged frameEvents oneEvent rowEvents playerEvents cellsBytes headBytes marked slotsOf slotsFrom portsOf portSlots portBytes tabulate part more lowest startsWith stopOf allPresent entriesIn tableOf spanOf codeTwice tableMissing unsigned untabled headRefusal eventIn stepIn stepOf run walkOf
+unfolding opens-file opens-steps opens-slots eventsRead endOf placementsOf placementOf frameEvents oneEvent rowEvents playerEvents cellsBytes headBytes marked walkOf
 cut-events = (refl, refl)
 
 -- ---- a mask that is written

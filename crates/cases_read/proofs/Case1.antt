@@ -13,6 +13,7 @@ use Rattle.format.specs.Refusal.{oneOf}
 use Rattle.format.specs.Version.{version, above, gteOf}
 use Rattle.layout.specs.Columns.{hasFamily, columnsOf, chosen}
 use Rattle.layout.specs.Payloads.{listed, payloadSize, entriesOf}
+use Rattle.game.specs.Zero.{noEnd}
 use Rattle.game.specs.Frames.{portsOf, slotsFrom, slotsOf}
 use Rattle.game.specs.Stores.{stores}
 use Rattle.game.specs.declared.Game.{Game}
@@ -27,7 +28,6 @@ use Rattle.grammar.specs.WellFormed.{Each, ascending, GoodCodes, WellFormed}
 use Rattle.grammar.specs.Readable.{Changing, Alike, seatType, Readable}
 use Rattle.columns.specs.Columns.{everIn, portColumns, rowsThere, framesRead, cellColumns, slotsCells, offsetsRead, slotsPresence, lentRead}
 use Rattle.outline.specs.Listed.{listedRight, codesBytes}
-use Rattle.outline.specs.End.{noEnd}
 use Rattle.head.specs.Table.{spanOf}
 use Rattle.found.specs.Found.{opensWrong, versionSaid, versionOf, earlyRefusal, Found, tooBig}
 use Rattle.reading.specs.Game.{Kept, kept, keptRead, noLengths, bare, tailKind, gameRead}

@@ -1,6 +1,6 @@
 -- What the check answers of small files of version 0.1.0: a sound one by each of its freedoms, and one for each rule of the block and of the tail.
 -- Assumes nothing.
-use Prim.Native.Nat.{ℕ, _≤_, _<_}
+use Prim.Native.Nat.{ℕ, _≤_}
 use mathlib.Core.Path.{_≡_, refl, sym, ap, subst, _∙_}
 use mathlib.Core.Bool.{Bool, true, false, cond, _&&_}
 use mathlib.Core.List.{List, [], _∷_, _++_}
@@ -19,8 +19,8 @@ use Rattle.layout.specs.Columns.{hasFamily, columnsOf, chosen, sum}
 use Rattle.layout.specs.Payloads.{endSize, entriesOf, listed, payloadSize}
 use Rattle.start.specs.Length.{lengthOf, reached}
 use Rattle.ending.specs.Tail.{metadataOf, tailOf}
-use Rattle.head.specs.Table.{startsWith, stopOf, allPresent, entriesIn, tableOf, spanOf, codeTwice, tableMissing, unsigned, untabled, headRefusal}
-use Rattle.head.specs.Step.{eventIn, stepIn, stepOf}
+use Rattle.head.specs.Table.{startsWith, entriesIn, tableOf, unsigned, untabled, headRefusal}
+use Rattle.head.specs.Step.{stepOf}
 use Rattle.de.specs.Walk.{run, walkOf}
 use Rattle.de.specs.Cut.{eventsRead}
 use Rattle.map.specs.Map.{text, empty, entry, textBytes, valueBytes, bodyOf, fitsValue, fits, has, same, twiceValue, twiceIn}
@@ -29,18 +29,19 @@ use Rattle.map_reader.specs.Read as reader
 use Rattle.reading.specs.Game.{bare, hasBody, tailKind}
 use Rattle.grammar.specs.Productions.{Player, Frame, Replay, preEvent, postEvent, startEvent, endEvent, codesEvents, frameEvents, framesEvents, eventsOf, usedIn}
 use Rattle.grammar.specs.WellFormed.{Each, anyhow, nobody, before, mayCome, InOrder, GoodPlayer, GoodFrame, GoodCodes, WellFormed}
-use Rattle.grammar.specs.Sound.{tableFor, SoundEvents, Metadata, ProperTail, Sound}
-use Rattle.grammar.specs.Machine.{familyOf, closed, inFrame, isNext, player, orderly, allowed, dueAfter, onFamily, rest}
-use Rattle.grammar.specs.Whole.{saysVersion, isStart, isBlock, isLast, isFull, blocksRest, codesRest, isEnd, areEnds, onSome, isReplay}
+use Rattle.grammar.specs.Sound.{tableFor, SoundEvents, Metadata, Sound}
+use Rattle.grammar.specs.Whole.{saysVersion, isStart, isBlock, isLast, isFull, blocksRest, codesRest, onSome, isReplay}
 use Rattle.grammar.proofs.Tests.{both}
 use Rattle.grammar.proofs.Each.{each-so}
 use Rattle.grammar.proofs.Exactly.{Byte}
 use Rattle.grammar.proofs.Whole.{Comes, whole}
-use Rattle.found.specs.Found.{opensWrong, versionSaid, versionOf, earlyRefusal}
+use Rattle.found.specs.Found.{versionOf, earlyRefusal}
 use Rattle.sound_files.proofs.Read as read
 use Rattle.checking.specs.Check.{Answer, early, events, tail, sound}
 use Rattle.checking.specs.Inner.{isBody, isTail}
 use Rattle.checking.proofs.Proper.{tail-right}
+use Rattle.frames.proofs.Opens.{opens-table}
+use Rattle.found.proofs.Opens.{opens-early, opens-machine}
 
 abbrev old : Version
 old = version 0 1 0
@@ -190,7 +191,7 @@ abbrev cut : List ℕ
 cut = splice (file small []) 11 (be 4 336)
 
 cut-short : Answer cut 19 0
-unfolding fileOf tableBytes entriesBytes eventsBytes be part more lowest startsWith stopOf allPresent entriesIn tableOf spanOf codeTwice tableMissing unsigned untabled headRefusal eventIn stepIn stepOf run walkOf eventsRead opensWrong versionSaid earlyRefusal acceptedOf above entriesOf listed payloadSize endSize hasFamily gteOf columnsOf chosen sum codesEvents framesEvents eventsOf keep usedIn splice
+unfolding opens-early opens-table codesEvents framesEvents eventsOf usedIn splice
 cut-short = events refl (λ x. let z : _≡_ {A = ℕ} 0 1 = ap (λ (b : Bool). cond b 0 1) (sym (read.present cut x)) in omega arith) refl refl
 
 -- 19: Post is listed before Pre
@@ -207,7 +208,7 @@ second-listed f x e =
     go false = refl
 
 listed-first : Answer swapped 19 0
-unfolding fileOf tableBytes entriesBytes eventsBytes be part more lowest startsWith stopOf allPresent entriesIn tableOf spanOf codeTwice tableMissing unsigned untabled headRefusal eventIn stepIn stepOf run walkOf eventsRead opensWrong versionSaid earlyRefusal acceptedOf above
+unfolding opens-early
 listed-first = events refl (λ x. let z : _≡_ {A = ℕ} 0x38 0x37 = second-listed swapped x refl in omega arith) refl refl
 
 -- 19: the table has an entry more
@@ -224,7 +225,7 @@ four-listed f x e =
     go false = refl
 
 listed-more : Answer longer 19 0
-unfolding fileOf tableBytes entriesBytes eventsBytes be part more lowest startsWith stopOf allPresent entriesIn tableOf spanOf codeTwice tableMissing unsigned untabled headRefusal eventIn stepIn stepOf run walkOf eventsRead opensWrong versionSaid earlyRefusal acceptedOf above
+unfolding opens-early
 listed-more = events refl (λ x. let z : _≡_ {A = ℕ} 5 4 = four-listed longer x refl in omega arith) refl refl
 
 -- ---- 19: events that no replay has
@@ -291,7 +292,7 @@ broken =
     ∷ []
 
 all-broken : Each (λ es. Refuted (with es)) broken
-unfolding Each under allUnder fileOf tableBytes entriesBytes eventsBytes be part more lowest startsWith stopOf allPresent entriesIn tableOf spanOf codeTwice tableMissing unsigned untabled headRefusal eventIn stepIn stepOf run walkOf eventsRead opensWrong versionSaid earlyRefusal acceptedOf above gteOf hasFamily columnsOf chosen sum endSize lengthOf reached isReplay isStart saysVersion codesRest onSome areEnds isEnd rest onFamily familyOf allowed orderly closed inFrame player nobody isNext dueAfter mayCome before
+unfolding opens-early opens-machine Each under allUnder
 all-broken = ((refl, refl, refl), ((refl, refl, refl), ((refl, refl, refl), ((refl, refl, refl), ((refl, refl, refl), ((refl, refl, refl), ((refl, refl, refl), ((refl, refl, refl), ((refl, refl, refl), ((refl, refl, refl), ((refl, refl, refl), ((refl, refl, refl), tt))))))))))))
 
 each-broken : Each (λ es. Answer (with es) 19 0) broken
@@ -317,7 +318,7 @@ broken-blocks =
     ∷ []
 
 all-blocks : Each (λ bs. Refuted (coded bs)) broken-blocks
-unfolding Each under allUnder fileOf tableBytes entriesBytes eventsBytes be part more lowest startsWith stopOf allPresent entriesIn tableOf spanOf codeTwice tableMissing unsigned untabled headRefusal eventIn stepIn stepOf run walkOf eventsRead opensWrong versionSaid earlyRefusal acceptedOf above gteOf hasFamily columnsOf chosen sum endSize lengthOf reached entriesOf listed payloadSize isReplay isStart saysVersion isBlock isLast isFull blocksRest codesRest onSome
+unfolding opens-early Each under allUnder gteOf hasFamily columnsOf chosen sum endSize lengthOf reached entriesOf listed payloadSize isReplay isStart saysVersion isBlock isLast isFull blocksRest codesRest onSome
 all-blocks = ((refl, refl, refl), ((refl, refl, refl), ((refl, refl, refl), ((refl, refl, refl), ((refl, refl, refl), ((refl, refl, refl), tt))))))
 
 each-blocks : Each (λ bs. Answer (coded bs) 19 0) broken-blocks
@@ -343,7 +344,7 @@ early-numbers : Answer (signature ++ be 4 0) 15 15
     × Answer (fileOf (one 0x39 1 ∷ []) (event 0x39 (0 ∷ []) ∷ []) (0x7d ∷ [])) 19 0
     × Answer (file-of 3 (event 0x36 (0 ∷ 1 ∷ 0 ∷ []))) 19 0
     × Answer (file-of 4 (event 0x36 (3 ∷ 18 ∷ 1 ∷ 0 ∷ []))) 1 0
-unfolding fileOf tableBytes entriesBytes eventsBytes be part more lowest startsWith stopOf allPresent entriesIn tableOf spanOf codeTwice tableMissing unsigned untabled headRefusal eventIn stepIn stepOf run walkOf eventsRead opensWrong versionSaid earlyRefusal acceptedOf above
+unfolding opens-early
 early-numbers = (
   early (λ z. omega arith) refl refl,
   early (λ z. omega arith) refl refl,

@@ -18,7 +18,7 @@ use Rattle.map_reader.specs.Answer.{wholeMap}
 use Rattle.map_reader.proofs.Places.{part-bytes}
 use Rattle.map_back.proofs.Complete.{back}
 use Rattle.map_back.proofs.Round.{whole-body}
-use Rattle.grammar.specs.Sound.{SoundEvents, Metadata, ProperTail, Sound}
+use Rattle.grammar.specs.Sound.{SoundEvents, Metadata, Sound}
 use Rattle.grammar.proofs.Tests.{both, Or, left-is, right-is, either}
 use Rattle.found.specs.Inner.{Bytes}
 use Rattle.reading.specs.Game.{bare, hasBody, tailKind}

@@ -6,7 +6,7 @@ use mathlib.Core.List.{List, [], _∷_, _++_}
 use lib.Dec.{ltb, eqb}
 use lib.ListN.{length}
 use Rattle.wire.specs.Wire.{be, part, ranged, keep}
-use Rattle.format.specs.Version.{gteOf}
+use Rattle.format.specs.Version.{hasCodes}
 use Rattle.format.specs.Event.{codeOf}
 use Rattle.format.specs.File.{Ev}
 use Rattle.format.specs.declared.version.Version.{Version}
@@ -44,4 +44,4 @@ codeEvents given codes actual = keep given (codeBlocks codes actual)
 
 -- 10: codes given before 3.3, or their bytes are not the actual size rounded up to 512
 unfoldable pub codesWrong : Version → Bool → List ℕ → ℕ → Bool
-codesWrong v given codes actual = given && (not (gteOf v 3 3) || not (eqb (length codes) (512 * blockCount actual)))
+codesWrong v given codes actual = given && (not (hasCodes v) || not (eqb (length codes) (512 * blockCount actual)))

@@ -28,7 +28,7 @@ pub fn codes_wrong(v: Version, given: bool, codes: &[u8], actual: u32) -> bool
     ensures { λ r. ⌜ r ≡ codesWrong v given (now (codes .entry)) actual ⌝ }
 {
     if given {
-        if v.gte(3, 3) {
+        if v.has_codes() {
             return codes.len() != padded(actual);
         }
         return true;

@@ -8,7 +8,7 @@ use mathlib.Core.List.{List, [], _∷_, map}
 use lib.ListN.{length, take, replicate}
 use Rattle.wire.specs.Wire.{be, more, part, splice}
 use Rattle.format.specs.Refusal.{lowest}
-use Rattle.format.specs.File.{Entry, Ev, entriesBytes, tableBytes, eventsBytes, fileOf}
+use Rattle.format.specs.File.{Entry, entriesBytes, tableBytes, eventsBytes, fileOf}
 use Rattle.head.specs.Table.{startsWith, declared, stopOf, allPresent, entriesIn, tableOf, spanOf, codeTwice, tableMissing, unsigned, untabled, headRefusal}
 use Rattle.head.specs.Step.{eventIn, stepIn, stepOf}
 use Rattle.de.specs.Walk.{run, walkOf}

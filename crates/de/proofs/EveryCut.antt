@@ -7,7 +7,7 @@
 -- `eventsRead` is what the steps of the walk return, codes and payload bytes; `wholly n es` are the events in the first n bytes of es.
 -- Assumes nothing.
 use Prim.Native.Nat.{ℕ, _+_, _-_, _^_, _≤_, _<_, min}
-use mathlib.Core.Path.{_≡_, refl, sym, ap, _∙_}
+use mathlib.Core.Path.{_≡_, sym, ap, _∙_}
 use mathlib.Core.List.{List, [], _++_}
 use mathlib.Core.Bool.{true}
 use native.Mathlib.Omega.{arith}

@@ -4,3 +4,4 @@ pub mod EveryCut
 pub mod Unfilled
 pub mod Only
 pub mod Cases
+pub mod Opens

@@ -1,17 +1,16 @@
 -- The laws of a walk: one event more, and where it stops.
 -- Assumes nothing.
-use mathlib.Core.Path.{_≡_, refl, sym, ap, _∙_}
+use mathlib.Core.Path.{_≡_, refl, sym, ap}
 use mathlib.Core.List.{List, [], _∷_}
 use mathlib.Core.Bool.{false}
 use mathlib.Core.Logic.{⊎-elim}
-use Prim.Native.Nat.{ℕ, zero, suc, _+_, _-_, _≤_, _<_}
-use native.Mathlib.Nat.{add-zero}
+use Prim.Native.Nat.{ℕ, zero, suc, _+_, _-_}
 use native.Mathlib.Omega.{arith}
 use lib.ListN.{length}
 use Rattle.head.specs.Table.{stopOf, tableOf, firstPlace, headRefusal, headOffset}
 use Rattle.head.specs.Step.{stepOf}
 use Rattle.head.specs.Numbers.{stepNumbers}
-use Rattle.de.specs.Walk.{Run, after, turn, run, runOf, answerAt, walkOf}
+use Rattle.de.specs.Walk.{Run, run, runOf, answerAt, walkOf}
 use Rattle.de.specs.Inner.{stopped}
 use types.Run.{OneOf}
 use denote.Enum.Declared.{tagOf}

@@ -1,7 +1,7 @@
 -- The numbers and values of each answer of a walk, 0 where it has none.
 -- Assumes nothing.
 use Prim.Native.Nat.{ℕ}
-use mathlib.Core.Bool.{Bool, cond}
+use mathlib.Core.Bool.{cond}
 use Rattle.de.specs.declared.Walked.{Walked}
 use Rattle.de.specs.declared.Walked.the-variants.{Done, Refused}
 

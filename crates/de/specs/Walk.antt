@@ -1,7 +1,7 @@
 -- The walk of a whole file: one step after another, from the table's end on.
 -- Assumes nothing.
 use Prim.Native.Nat.{ℕ, zero, suc, _-_}
-use mathlib.Core.Bool.{Bool, true, false}
+use mathlib.Core.Bool.{true, false}
 use mathlib.Core.List.{List, [], _∷_}
 use lib.ListN.{length}
 use Rattle.head.specs.Table.{stopOf, tableOf, firstPlace}

@@ -6,13 +6,14 @@ use mathlib.Core.List.{List, [], _∷_, _++_}
 use Prim.Native.Nat.{ℕ}
 use borrow.Author.Tests.{eq-eqb, ne-eqb}
 use Rattle.wire.specs.Wire.{keep}
+use Rattle.format.specs.Version.{hasInitiator, hasPlacements}
 use Rattle.format.specs.Mark.{yes}
 use Rattle.format.specs.Event.{codeOf}
 use Rattle.format.specs.File.{eventBytes, eventsBytes}
 use Rattle.format.specs.declared.version.Version.{Version}
 use Rattle.format.specs.declared.event.Event.the-variants.{GameEnd}
 use Rattle.format.proofs.Files.{events-cons, events-keep, events-one}
-use Rattle.ending.specs.End.{hasInitiator, hasPlacements, initiatorBytes, placementsOf, endOf, endEvents, initiatorWrong, endWrong}
+use Rattle.ending.specs.End.{initiatorBytes, placementsOf, endOf, endEvents, initiatorWrong, endWrong}
 use Rattle.game.specs.declared.end.End.{End}
 
 pub end-parts : (v : Version) (e : End) (c : ℕ) → c ≡ codeOf GameEnd

@@ -10,12 +10,13 @@ use native.Mathlib.Omega.{arith}
 use lib.ListN.{length, length-append}
 use Rattle.wire.specs.Wire.{keep}
 use Rattle.wire.proofs.Laws.{length-ranged, length-kept}
+use Rattle.format.specs.Version.{hasInitiator, hasPlacements}
 use Rattle.format.specs.Mark.{yes}
 use Rattle.format.specs.File.{eventBytes, eventsBytes}
 use Rattle.format.specs.declared.version.Version.{Version}
 use Rattle.format.proofs.Versions.{gte-holds, gte-fails, no-way}
 use Rattle.layout.specs.Payloads.{endSize}
-use Rattle.ending.specs.End.{hasInitiator, hasPlacements, initiatorBytes, placementOf, placementsOf, endOf, endEvents}
+use Rattle.ending.specs.End.{initiatorBytes, placementOf, placementsOf, endOf, endEvents}
 use Rattle.ending.specs.Tail.{metadataOf, tailOf}
 use Rattle.ending.specs.Inner.{endCount}
 use Rattle.game.specs.declared.end.End.{End}

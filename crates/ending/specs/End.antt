@@ -6,20 +6,13 @@ use mathlib.Core.List.{List, [], _∷_, _++_}
 use lib.Dec.{leb, eqb}
 use lib.ListN.{getD}
 use Rattle.wire.specs.Wire.{ranged, keep}
-use Rattle.format.specs.Version.{gteOf}
+use Rattle.format.specs.Version.{hasInitiator, hasPlacements}
 use Rattle.format.specs.Mark.{no, yes}
 use Rattle.format.specs.Event.{codeOf}
 use Rattle.format.specs.File.{Ev}
 use Rattle.format.specs.declared.version.Version.{Version}
 use Rattle.format.specs.declared.event.Event.the-variants.{GameEnd}
 use Rattle.game.specs.declared.end.End.{End}
-
--- from 2.0 an end names its initiator, from 3.13 it places the players
-abbrev pub hasInitiator : Version → Bool
-hasInitiator v = gteOf v 2 0
-
-abbrev pub hasPlacements : Version → Bool
-hasPlacements v = gteOf v 3 13
 
 -- who ended the game: -1 for nobody, or a port
 abbrev pub initiatorBytes : End → List ℕ

@@ -2,18 +2,12 @@
 ghost use mathlib.Core.Path.{_≡_};
 ghost use Prim.Native.Nat.{_<_};
 ghost use Rattle.wire.specs.Wire.{Room, Wrote, keep};
+ghost use Rattle.format.specs.Version.{hasInitiator, hasPlacements};
 ghost use Rattle.format.specs.File.{eventBytes, eventsBytes};
-ghost use Rattle.ending.specs.End.{hasInitiator, hasPlacements, placementOf, placementsOf, initiatorBytes, endOf, endEvents, initiatorWrong, endWrong};
+ghost use Rattle.ending.specs.End.{placementOf, placementsOf, initiatorBytes, endOf, endEvents, initiatorWrong, endWrong};
 use format::event::Event;
 use format::version::Version;
 use game::end::End;
-
-// Whether v writes who ended the game.
-fn has_initiator(v: Version) -> bool
-    ensures { λ r. ⌜ r ≡ hasInitiator v ⌝ }
-{
-    v.gte(2, 0)
-}
 
 fn initiator_wrong(initiator: u8) -> bool
     ensures { λ r. ⌜ r ≡ initiatorWrong initiator ⌝ }
@@ -31,7 +25,7 @@ pub fn end_wrong(v: Version, e: End, double: u8) -> bool
     if e.given == 0 {
         return double != 0;
     }
-    if has_initiator(v) {
+    if v.has_initiator() {
         return initiator_wrong(e.initiator);
     }
     false
@@ -65,7 +59,7 @@ fn put_placements(out: &mut [u8], at: usize, v: Version, e: End) -> usize
     requires { ⌜ Room (now out) at (keep (hasPlacements v) (placementsOf e)) ⌝ }
     ensures { λ r. ⌜ Wrote (now (out .entry)) (now (out .exit)) at r (keep (hasPlacements v) (placementsOf e)) ⌝ }
 {
-    if v.gte(3, 13) {
+    if v.has_placements() {
         return put_four(out, at, e);
     }
     at
@@ -75,7 +69,7 @@ fn put_initiator(out: &mut [u8], at: usize, v: Version, e: End) -> usize
     requires { ⌜ Room (now out) at (keep (hasInitiator v) (initiatorBytes e)) ⌝ }
     ensures { λ r. ⌜ Wrote (now (out .entry)) (now (out .exit)) at r (keep (hasInitiator v) (initiatorBytes e)) ⌝ }
 {
-    if has_initiator(v) {
+    if v.has_initiator() {
         return wire::put_u8(out, at, e.initiator);
     }
     at

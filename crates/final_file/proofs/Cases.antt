@@ -2,33 +2,28 @@
 -- Assumes nothing.
 use mathlib.Core.Path.{_≡_, refl, sym}
 use mathlib.Core.List.{List, [], _∷_}
-use Prim.Native.Nat.{ℕ, _≤_, _<_}
+use Prim.Native.Nat.{ℕ, _≤_}
 use native.Mathlib.Omega.{arith}
 use borrow.Author.Tests.{lt-ltb, le-ltb}
 use lib.Dec.{lit<, lit≤}
 use lib.ListN.{length, replicate}
-use Rattle.wire.specs.Wire.{be, ranged, keep, tabulate}
+use Rattle.wire.specs.Wire.{be, ranged}
 use Rattle.wire.proofs.Sums.{summed}
 use Rattle.format.specs.File.{entriesBytes, tableBytes}
 use Rattle.format.specs.FrameId.{placeOf}
-use Rattle.format.specs.Refusal.{lowest, oneOf}
-use Rattle.format.specs.Version.{version, above, gteOf, acceptedOf}
+use Rattle.format.specs.Refusal.{lowest}
+use Rattle.format.specs.Version.{version}
 use Rattle.format.specs.declared.version.Version.{Version}
 use Rattle.format.proofs.Refusals.{here, skip, none}
-use Rattle.layout.specs.Columns.{columnsOf, chosen, sum, hasFamily}
 use Rattle.layout.specs.Payloads.{endSize, listed, payloadSize, entriesOf}
-use Rattle.game.specs.Frames.{noPort, portsOf, portSlots, portBytes, slotsFrom, slotsOf}
+use Rattle.game.specs.Frames.{noPort}
 use Rattle.game.specs.Stores.{cells, offsets, lent, Stores, stores}
 use Rattle.game.specs.Zero.{noText, noSeat}
 use Rattle.game.specs.declared.Game.{Game}
 use Rattle.game.specs.declared.start.Seat.{Seat}
-use Rattle.players.specs.Presence.{marked, countFrom, playersPresent, uneven, portUneven, portsUneven, presenceWrong}
-use Rattle.frames.specs.Judge.{tooMany, misfits, storesMisfit, columnsExceed, blocksExceed, exceeds, cellsExceed, falls, strays, leftOver, misleads, offsetsMislead, portNumbers, twice, portsWrong, refusals}
-use Rattle.start.specs.Length.{reached, lengthOf}
-use Rattle.start.specs.Refusal.{blockWrong, missing, tooLong, holdsZero, fieldMissing, typeAbove2, badSeat, badStart}
-use Rattle.patch.specs.Field.{zeroInside}
-use Rattle.codes.specs.Blocks.{blockCount, codesWrong}
-use Rattle.ending.specs.End.{initiatorWrong, endWrong}
+use Rattle.players.specs.Presence.{marked, countFrom, playersPresent}
+use Rattle.start.specs.Refusal.{fieldMissing, typeAbove2}
+use Rattle.codes.specs.Blocks.{blockCount}
 use Rattle.events.specs.Length.{framesLength, playersOver, runLength}
 use Rattle.rollback.specs.Mask.{occurs, needed}
 use Rattle.ser.specs.Write.{judged}
@@ -37,6 +32,8 @@ use Rattle.final_file.specs.Write.{finalFile, judgedFirst, finalRefusals
 use Rattle.final_file.specs.Inner.{keptRaw}
 use Rattle.final_file.proofs.Outcomes.{range-refused, scratch-refused, none-refused, numbered-first, ready}
 use Rattle.final_file.proofs.Steps.{total-is}
+use Rattle.frames.proofs.Opens.{opens-columns, opens-slots}
+use Rattle.ser.proofs.Opens.{opens-judged}
 
 -- a game of one leader and no end
 abbrev gameWith : Version → ℕ → ℕ → Seat → ℕ → ℕ → Game
@@ -90,11 +87,11 @@ good = lentWith (5 ∷ 6 ∷ 5 ∷ [])
 
 -- ids in range or not: refusals 1 to 11 do not apply
 accepted : (lowest (judged three good) ≡ 0) × (lowest (judged three (lentWith (5 ∷ 1048453 ∷ 5 ∷ []))) ≡ 0)
-unfolding judged lowest refusals acceptedOf above gteOf columnsOf chosen sum hasFamily keep tabulate portsOf portSlots portBytes slotsFrom slotsOf oneOf tooMany misfits storesMisfit columnsExceed blocksExceed exceeds cellsExceed falls strays leftOver misleads offsetsMislead uneven portUneven portsUneven presenceWrong portNumbers twice portsWrong reached lengthOf blockWrong missing tooLong holdsZero fieldMissing typeAbove2 badSeat badStart zeroInside blockCount codesWrong initiatorWrong endWrong
+unfolding opens-judged fieldMissing typeAbove2 blockCount
 accepted = (refl, refl)
 
 raw : keptRaw three (5 ∷ 6 ∷ 5 ∷ []) (good .lent .offsets) [] 320 ≡ 521
-unfolding keptRaw tableBytes entriesBytes entriesOf listed payloadSize endSize be summed framesLength playersOver playersPresent countFrom marked runLength occurs keep tabulate ranged portsOf portSlots portBytes slotsFrom slotsOf above gteOf columnsOf chosen sum hasFamily blockCount
+unfolding opens-columns opens-slots keptRaw tableBytes entriesBytes entriesOf listed payloadSize endSize be summed framesLength playersOver playersPresent countFrom marked runLength occurs ranged blockCount
 raw = refl
 
 places : (needed (5 ∷ 6 ∷ 5 ∷ []) ≡ 130) × (needed (5 ∷ 1048453 ∷ 5 ∷ []) ≡ 1048577)
@@ -169,5 +166,5 @@ refused-first :
     × (finalRefusal (gameWith old 1 0 third 0 0) whole 0 0 ≡ 9)
     × (finalRefusal (gameWith old 1 0 noSeat 0 1) whole 0 0 ≡ 10)
     × (finalRefusal (gameWith old 1 0 noSeat 1 0) whole 0 0 ≡ 11)
-unfolding finalRefusals judgedFirst judged lowest refusals acceptedOf above gteOf columnsOf chosen sum hasFamily keep tabulate portsOf portSlots portBytes slotsFrom slotsOf oneOf tooMany misfits storesMisfit columnsExceed blocksExceed exceeds cellsExceed falls strays leftOver misleads offsetsMislead uneven portUneven portsUneven presenceWrong portNumbers twice portsWrong reached lengthOf blockWrong missing tooLong holdsZero fieldMissing typeAbove2 badSeat badStart zeroInside blockCount codesWrong initiatorWrong endWrong
+unfolding opens-judged finalRefusals judgedFirst fieldMissing typeAbove2 blockCount
 refused-first = (refl, refl, refl, refl, refl, refl, refl, refl, refl, refl, refl)

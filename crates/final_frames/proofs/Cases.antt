@@ -1,21 +1,20 @@
 -- Three games, computed: which rows are kept, and what is gathered.
 -- Assumes nothing.
 use mathlib.Core.Path.{_≡_, refl, ap, _∙_}
-use mathlib.Core.Bool.{not}
 use mathlib.Core.List.{List, [], _∷_, _++_}
-use Prim.Native.Nat.{ℕ, _+_, _%_}
+use Prim.Native.Nat.{ℕ, _%_}
 use lib.ListN.{length, take, drop, replicate}
 use Rattle.wire.specs.Wire.{be, ranged, keep, tabulate}
 use Rattle.format.specs.File.{eventsBytes}
-use Rattle.format.specs.Refusal.{lowest, oneOf}
-use Rattle.format.specs.Version.{version, above, gteOf, acceptedOf}
+use Rattle.format.specs.Refusal.{lowest}
+use Rattle.format.specs.Version.{version, above, gteOf}
 use Rattle.layout.specs.Columns.{columnsOf, chosen, sum, hasFamily}
 use Rattle.game.specs.Frames.{portsOf, portSlots, portBytes, slotsFrom, slotsOf}
 use Rattle.game.specs.Stores.{Lent, cells, offsets, lent}
 use Rattle.game.specs.declared.frames.PortColumn.{PortColumn}
 use Rattle.game.specs.declared.frames.Frames.{Frames}
-use Rattle.players.specs.Presence.{marked, uneven, portUneven, portsUneven, presenceWrong}
-use Rattle.frames.specs.Judge.{tooMany, misfits, storesMisfit, columnsExceed, blocksExceed, exceeds, cellsExceed, falls, strays, leftOver, misleads, offsetsMislead, portNumbers, twice, portsWrong, refusals}
+use Rattle.players.specs.Presence.{marked}
+use Rattle.frames.specs.Judge.{refusals}
 use Rattle.record.specs.Record.{cellsBytes}
 use Rattle.events.specs.Events.{frameEvents, framesEvents, oneEvent, rowEvents, playerEvents}
 use Rattle.rollback.specs.Mask.{occurs, maskOf}
@@ -24,6 +23,7 @@ use Rattle.final_frames.specs.Rows.{gather, rowsAt, offsetsAt, packed, p
 use Rattle.final_frames.specs.Final.{kept, finalFrames, finalLent}
 use Rattle.final_frames.proofs.Gather.{each}
 use Rattle.final_frames.proofs.Events.{frames-are}
+use Rattle.frames.proofs.Opens.{opens-refusals, opens-slots}
 
 abbrev column : ℕ → ℕ → ℕ → ℕ → PortColumn
 column p f a b = record { port = p; follower = f; «leader_presence» = a; «follower_presence» = b }
@@ -60,12 +60,12 @@ four-gathered :
     × (drop 39 (finalLent four fourLent .cells .pres) ≡ 52 ∷ 54 ∷ 55 ∷ [])
     × (length (finalLent four fourLent .cells .posts) ≡ 33)
     × (finalLent four fourLent .presence ≡ 5 ∷ [])
-unfolding framesAt lentAt kept maskOf tabulate occurs ranged keep gather rowsAt offsetsAt totals packed bitsFrom presenceAt marked portsOf portSlots portBytes slotsFrom slotsOf hasFamily columnsOf chosen above gteOf
+unfolding opens-slots framesAt lentAt kept maskOf occurs ranged keep gather rowsAt offsetsAt totals packed bitsFrom presenceAt marked hasFamily columnsOf chosen above gteOf
 four-gathered = (refl, refl, refl, refl, refl, refl)
 
 -- both are accepted; frame 2 is kept and has no events
 four-accepted : (lowest (refusals four fourLent 0 0) ≡ 0) × (lowest (refusals (finalFrames four fourLent) (finalLent four fourLent) 0 0) ≡ 0)
-unfolding framesAt lentAt kept maskOf occurs ranged gather rowsAt offsetsAt totals packed bitsFrom presenceAt marked lowest refusals acceptedOf above gteOf columnsOf chosen sum hasFamily keep tabulate portsOf portSlots portBytes slotsFrom slotsOf oneOf tooMany misfits storesMisfit columnsExceed blocksExceed exceeds cellsExceed falls strays leftOver misleads offsetsMislead uneven portUneven portsUneven presenceWrong portNumbers twice portsWrong
+unfolding opens-refusals framesAt lentAt kept maskOf occurs ranged gather rowsAt offsetsAt totals packed bitsFrom presenceAt marked
 four-accepted = (refl, refl)
 
 four-events : framesEvents (finalFrames four fourLent) (finalLent four fourLent) ≡ frameEvents four fourLent 0 ++ (frameEvents four fourLent 2 ++ (frameEvents four fourLent 3 ++ []))
@@ -115,11 +115,11 @@ ten-gathered :
     × (finalLent ten tenLent .cells .fods ≡ 10 ∷ 20 ∷ [])
     × (finalLent ten tenLent .cells .whispys ≡ 31 ∷ [])
     × (finalLent ten tenLent .cells .starts ≡ 0 ∷ 1 ∷ 2 ∷ 3 ∷ 4 ∷ 7 ∷ 8 ∷ 9 ∷ 10 ∷ 11 ∷ 12 ∷ 13 ∷ 14 ∷ 17 ∷ 18 ∷ 19 ∷ [])
-unfolding framesAt lentAt kept maskOf tabulate occurs ranged keep gather rowsAt offsetsAt totals packed bitsFrom presenceAt marked portsOf portSlots portBytes slotsFrom slotsOf hasFamily columnsOf chosen above gteOf
+unfolding opens-slots framesAt lentAt kept maskOf occurs ranged keep gather rowsAt offsetsAt totals packed bitsFrom presenceAt marked hasFamily columnsOf chosen above gteOf
 ten-gathered = (refl, refl, refl, refl, refl, refl, refl, refl, refl, refl, refl)
 
 ten-sizes : (length (finalLent ten tenLent .cells .pres) ≡ 456) × (length (finalLent ten tenLent .cells .posts) ≡ 768) × (length (finalLent ten tenLent .cells .items) ≡ 48)
-unfolding framesAt lentAt kept maskOf tabulate occurs ranged keep gather rowsAt offsetsAt totals packed bitsFrom presenceAt marked portsOf portSlots portBytes slotsFrom slotsOf hasFamily columnsOf chosen above gteOf
+unfolding opens-slots framesAt lentAt kept maskOf occurs ranged keep gather rowsAt offsetsAt totals packed bitsFrom presenceAt marked hasFamily columnsOf chosen above gteOf
 ten-sizes = (refl, refl, refl)
 
 -- ---- an id three times, with items each time: ids 7 8 7 7 at 3.0.0 have 1, 2, 3 and 2 items; rows 1 and 3 are final, with items 1, 2, 6 and 7
@@ -146,9 +146,9 @@ thrice-gathered :
     × (finalLent thrice thriceLent .offsets .fods ≡ [])
     × (take 8 (finalLent thrice thriceLent .cells .items) ≡ 1 ∷ 2 ∷ 6 ∷ 7 ∷ 9 ∷ 10 ∷ 14 ∷ 15 ∷ [])
     × (finalLent thrice thriceLent .presence ≡ [])
-unfolding framesAt lentAt kept maskOf tabulate occurs ranged keep gather rowsAt offsetsAt totals packed bitsFrom presenceAt marked portsOf portSlots portBytes slotsFrom slotsOf hasFamily columnsOf chosen above gteOf
+unfolding opens-slots framesAt lentAt kept maskOf occurs ranged keep gather rowsAt offsetsAt totals packed bitsFrom presenceAt marked hasFamily columnsOf chosen above gteOf
 thrice-gathered = (refl, refl, refl, refl, refl, refl, refl)
 
 thrice-accepted : (lowest (refusals thrice thriceLent 0 0) ≡ 0) × (lowest (refusals (finalFrames thrice thriceLent) (finalLent thrice thriceLent) 0 0) ≡ 0)
-unfolding framesAt lentAt kept maskOf occurs ranged gather rowsAt offsetsAt totals packed bitsFrom presenceAt marked lowest refusals acceptedOf above gteOf columnsOf chosen sum hasFamily keep tabulate portsOf portSlots portBytes slotsFrom slotsOf oneOf tooMany misfits storesMisfit columnsExceed blocksExceed exceeds cellsExceed falls strays leftOver misleads offsetsMislead uneven portUneven portsUneven presenceWrong portNumbers twice portsWrong
+unfolding opens-refusals framesAt lentAt kept maskOf occurs ranged gather rowsAt offsetsAt totals packed bitsFrom presenceAt marked
 thrice-accepted = (refl, refl)

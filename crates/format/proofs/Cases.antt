@@ -1,8 +1,8 @@
 -- Which versions are accepted, and which are at least another, as computed tables.
 -- Assumes nothing.
 use mathlib.Core.Path.{_≡_, refl}
-use mathlib.Core.Bool.{Bool, true, false}
-use mathlib.Core.List.{List, [], _∷_, map}
+use mathlib.Core.Bool.{true, false}
+use mathlib.Core.List.{[], _∷_, map}
 use Rattle.format.specs.Version.{version, above, gteOf, acceptedOf}
 use Rattle.format.specs.declared.version.Version.{Version}
 

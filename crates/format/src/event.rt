@@ -19,24 +19,51 @@ pub enum Event {
     StadiumTransformation,
 }
 
+// The codes by name, for code that tells events apart by their first byte.
+pub const PAYLOADS: u8 = 0x35;
+
+pub const GAME_START: u8 = 0x36;
+
+pub const FRAME_PRE: u8 = 0x37;
+
+pub const FRAME_POST: u8 = 0x38;
+
+pub const GAME_END: u8 = 0x39;
+
+pub const FRAME_START: u8 = 0x3A;
+
+pub const ITEM: u8 = 0x3B;
+
+pub const FRAME_END: u8 = 0x3C;
+
+pub const GECKO_CODES: u8 = 0x3D;
+
+pub const MESSAGE_SPLITTER: u8 = 0x10;
+
+pub const FOD_PLATFORM: u8 = 0x3F;
+
+pub const DREAMLAND_WHISPY: u8 = 0x40;
+
+pub const STADIUM_TRANSFORMATION: u8 = 0x41;
+
 impl Event {
     pub fn code(self) -> u8
         ensures { λ r. ⌜ r ≡ codeOf self ⌝ }
     {
         match self {
-            Event::Payloads => 0x35,
-            Event::GameStart => 0x36,
-            Event::FramePre => 0x37,
-            Event::FramePost => 0x38,
-            Event::GameEnd => 0x39,
-            Event::FrameStart => 0x3A,
-            Event::Item => 0x3B,
-            Event::FrameEnd => 0x3C,
-            Event::GeckoCodes => 0x3D,
-            Event::MessageSplitter => 0x10,
-            Event::FodPlatform => 0x3F,
-            Event::DreamlandWhispy => 0x40,
-            Event::StadiumTransformation => 0x41,
+            Event::Payloads => PAYLOADS,
+            Event::GameStart => GAME_START,
+            Event::FramePre => FRAME_PRE,
+            Event::FramePost => FRAME_POST,
+            Event::GameEnd => GAME_END,
+            Event::FrameStart => FRAME_START,
+            Event::Item => ITEM,
+            Event::FrameEnd => FRAME_END,
+            Event::GeckoCodes => GECKO_CODES,
+            Event::MessageSplitter => MESSAGE_SPLITTER,
+            Event::FodPlatform => FOD_PLATFORM,
+            Event::DreamlandWhispy => DREAMLAND_WHISPY,
+            Event::StadiumTransformation => STADIUM_TRANSFORMATION,
         }
     }
 }

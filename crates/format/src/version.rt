@@ -1,6 +1,6 @@
 // The version of a replay.
 ghost use mathlib.Core.Path.{_≡_};
-ghost use Rattle.format.specs.Version.{version, gteOf, acceptedOf};
+ghost use Rattle.format.specs.Version.{version, gteOf, hasCodes, hasInitiator, hasPlacements, acceptedOf};
 
 #[repr(C)]
 pub struct Version {
@@ -38,6 +38,27 @@ impl Version {
             return false;
         }
         minor <= self.minor
+    }
+
+    // Whether codes may be given.
+    pub fn has_codes(self) -> bool
+        ensures { λ r. ⌜ r ≡ hasCodes self ⌝ }
+    {
+        self.gte(3, 3)
+    }
+
+    // Whether an end says who ended the game.
+    pub fn has_initiator(self) -> bool
+        ensures { λ r. ⌜ r ≡ hasInitiator self ⌝ }
+    {
+        self.gte(2, 0)
+    }
+
+    // Whether an end says the placements.
+    pub fn has_placements(self) -> bool
+        ensures { λ r. ⌜ r ≡ hasPlacements self ⌝ }
+    {
+        self.gte(3, 13)
     }
 
     // Whether this is not above the newest version, in all three numbers.

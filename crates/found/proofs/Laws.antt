@@ -1,9 +1,9 @@
 -- The laws of a file's first event, and of what is asked of its start.
 -- Assumes nothing.
 use mathlib.Core.Path.{_≡_, refl, sym, ap, _∙_}
-use mathlib.Core.Bool.{Bool, true, false, not, cond, _&&_, _||_}
-use mathlib.Core.List.{List, [], _∷_}
-use Prim.Native.Nat.{ℕ, suc, _+_, _-_, _≤_, _<_}
+use mathlib.Core.Bool.{Bool, true, false, not, _&&_}
+use mathlib.Core.List.{List}
+use Prim.Native.Nat.{ℕ, _+_, _-_, _≤_, _<_}
 use native.Mathlib.Omega.{arith}
 use borrow.Author.Tests.{lt-ltb, le-ltb, le-leb, lt-leb, eq-eqb, ne-eqb}
 use lib.ListN.{length, getD}
@@ -17,7 +17,6 @@ use Rattle.start_read.specs.Start.{seatsFit}
 use Rattle.frame_scan.specs.declared.tally.Tally.{Tally}
 use Rattle.outline.proofs.Laws.{length-part}
 use Rattle.found.specs.Inner.{opensAt, firstAt, startFits, changes}
-use Rattle.found.specs.declared.first.First.{First}
 use Rattle.found.specs.declared.first.First.the-variants.{Opens, Other}
 
 -- ---- the first event

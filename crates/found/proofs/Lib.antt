@@ -3,3 +3,4 @@ pub mod Opening
 pub mod Laws
 pub mod Stages
 pub mod Places
+pub mod Opens

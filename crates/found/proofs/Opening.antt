@@ -1,12 +1,12 @@
 -- The first event of a file, as the bytes say it and as the reader finds it.
 -- Assumes nothing.
 use Prim.Native.Nat.{ℕ, zero, suc, _+_, _-_, _≤_, _<_}
-use mathlib.Core.Path.{_≡_, refl, sym, ap, subst, _∙_}
+use mathlib.Core.Path.{_≡_, refl, sym, ap, _∙_}
 use mathlib.Core.Bool.{Bool, true, false, not, cond, _&&_, _||_}
-use mathlib.Core.List.{List, [], _∷_, _++_, map}
+use mathlib.Core.List.{List, _∷_, map}
 use native.Mathlib.Decide.{decLt, ℕ-discrete}
 use native.Mathlib.Omega.{arith}
-use borrow.Author.Tests.{lt-ltb, le-leb, eq-eqb, ne-eqb, ltb-true, leb-true, eqb-true}
+use borrow.Author.Tests.{lt-ltb, le-leb, eq-eqb, ne-eqb, leb-true, eqb-true}
 use lib.Dec.{ltb, leb, eqb}
 use lib.ListN.{length, getD, take, drop, length-take, length-drop}
 use Rattle.wire.specs.Wire.{part}
@@ -16,9 +16,8 @@ use Rattle.format.specs.declared.version.Version.{Version}
 use Rattle.head.specs.Table.{stopOf, tableOf, firstPlace, spanOf, headRefusal}
 use Rattle.head.specs.Step.{stepOf}
 use Rattle.head.specs.declared.Step.{Step}
-use Rattle.head.specs.declared.Step.the-variants.{Event, Ends, Cut, Refused}
 use Rattle.head.proofs.Filled.{stop-within}
-use Rattle.de.specs.Walk.{turn, run, runOf}
+use Rattle.de.specs.Walk.{turn, run}
 use Rattle.de.specs.Cut.{eventAt, eventsRead}
 use Rattle.grammar.specs.Productions.{startEvent}
 use Rattle.grammar.proofs.Tests.{both}
@@ -27,7 +26,7 @@ use Rattle.found.specs.Found.{opensWrong, versionSaid}
 use Rattle.found.specs.Inner.{Bytes, opensAt, firstAt}
 use Rattle.found.specs.declared.first.First.{First}
 use Rattle.found.specs.declared.first.First.the-variants.{Opens, Other}
-use Rattle.found.proofs.Walked.{stands, event-stands, spanHere, eventHere}
+use Rattle.found.proofs.Walked.{stands, event-stands, eventHere}
 
 -- what the first event says, of the events that are found
 pub record Opened (es : List Ev) (v : Version) (len : ℕ) : Type 0 where

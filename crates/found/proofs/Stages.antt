@@ -1,15 +1,15 @@
 -- The parts of a replay, one after another: where a test fails the file holds none, and where all pass it holds one, whose parts these are.
 -- Assumes nothing.
-use mathlib.Core.Path.{_≡_, refl, sym, ap, ap₂, subst, _∙_}
-use mathlib.Core.Bool.{Bool, true, false, cond, _&&_, _||_}
+use mathlib.Core.Path.{_≡_, refl, sym, ap, subst, _∙_}
+use mathlib.Core.Bool.{Bool, true, false, _||_}
 use mathlib.Core.List.{List, [], _∷_, _++_, map, append-assoc, head-eq-of-cons-eq, tail-eq-of-cons-eq}
 use mathlib.Core.Option.{Option, none, some, Option·some-injective, Option·none-ne-some}
-use Prim.Native.Nat.{ℕ, suc, _+_, _*_, _-_, _≤_, _<_}
+use Prim.Native.Nat.{ℕ, suc, _+_, _*_, _-_, _≤_}
 use native.Mathlib.Omega.{arith}
 use borrow.Author.Tests.{le-leb, leb-true}
 use lib.Dec.{leb}
-use lib.ListN.{length, getD, take, drop, length-append, length-drop}
-use lib.Seq.{drop-drop, drop-at, take-at, drop-cons}
+use lib.ListN.{length, getD, take, drop, length-append}
+use lib.Seq.{drop-drop, drop-at, take-at}
 use Rattle.wire.specs.Wire.{part, ranged}
 use Rattle.format.specs.File.{Ev, eventBytes, eventsBytes}
 use Rattle.format.specs.declared.version.Version.{Version}
@@ -20,32 +20,29 @@ use Rattle.start.specs.Length.{lengthOf}
 use Rattle.start.proofs.Lengths.{at-least}
 use Rattle.start_read.specs.Start.{seatsFit}
 use Rattle.start_read.proofs.Types.{types-fit}
-use Rattle.head.specs.Table.{stopOf, tableOf, spanOf}
 use Rattle.de.specs.Cut.{eventsRead}
-use Rattle.grammar.specs.Productions.{Block, Frame, Replay, startEvent, endEvent, codesEvents, framesEvents, eventsOf, usedIn}
-use Rattle.grammar.specs.WellFormed.{Each, ascending, GoodFrame, GoodCodes, WellFormed}
-use Rattle.grammar.specs.Readable.{Changing, Readable}
+use Rattle.grammar.specs.Productions.{Frame, Replay, startEvent, endEvent, codesEvents, framesEvents, eventsOf, usedIn}
+use Rattle.grammar.specs.WellFormed.{Each, ascending}
+use Rattle.grammar.specs.Readable.{Changing}
 use Rattle.grammar.specs.Machine.{initial, rest, familyOf}
 use Rattle.grammar.specs.Whole.{codesRest}
 use Rattle.grammar.proofs.Tests.{both}
 use Rattle.grammar.proofs.Unique.{no-block}
 use Rattle.grammar.proofs.Takes.{NoFrame, closed-last, complete}
-use Rattle.grammar.proofs.Exactly.{Byte, Taken}
-use Rattle.grammar.proofs.Each.{each-after}
+use Rattle.grammar.proofs.Exactly.{Taken}
 use Rattle.columns.specs.Columns.{framesRead}
 use Rattle.frame_scan.specs.Inner.{scan, tallied}
-use Rattle.frame_scan.specs.Counts.{noTally, isMarked}
+use Rattle.frame_scan.specs.Counts.{noTally}
 use Rattle.frame_scan.specs.declared.tally.Tally.{Tally}
-use Rattle.frame_scan.proofs.Same.{Spanned, placeOf, answered, Ends, ends}
+use Rattle.frame_scan.proofs.Same.{placeOf, answered, Ends, ends}
 use Rattle.frame_scan.proofs.Told.{Told, told}
 use Rattle.outline.specs.Inner.{codesAt, endsAt}
-use Rattle.outline.specs.Listed.{listedRight, codesBytes}
+use Rattle.outline.specs.Listed.{listedRight}
 use Rattle.outline.specs.declared.answer.Codes.the-variants as codes
 use Rattle.outline.specs.declared.answer.Ends.the-variants as ended
 use Rattle.outline.proofs.Same.{Coded, Found as CodesFound, codes-of, codes-wrong, codes-found, GoodEnds, Ended, ends-of, ends-found}
-use Rattle.found.specs.Found.{versionOf, versionSaid, geckoSpan, Found}
-use Rattle.found.specs.Inner.{Covers, Ready, startFits, changes, StandAt, Tallied, EndAt, Holds}
-use Rattle.found.specs.declared.parts.Parts.{Parts}
+use Rattle.found.specs.Found.{versionOf, versionSaid, Found}
+use Rattle.found.specs.Inner.{Covers, Ready, startFits, changes, Tallied, EndAt, Holds}
 
 -- ---- lists
 

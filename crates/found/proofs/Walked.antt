@@ -11,13 +11,13 @@ use lib.Seq.{drop-cons, drop-drop}
 use Rattle.wire.specs.Wire.{part}
 use Rattle.format.specs.File.{Ev, eventBytes, eventsBytes}
 use Rattle.head.specs.Table.{stopOf, allPresent, tableOf, firstPlace, spanOf, headRefusal}
-use Rattle.head.specs.Step.{eventIn, stepIn, stepOf}
+use Rattle.head.specs.Step.{stepIn, stepOf}
 use Rattle.head.specs.Numbers.{stepNumbers}
 use Rattle.head.specs.declared.Step.{Step}
 use Rattle.head.specs.declared.Step.the-variants.{Event, Ends, Cut, Refused}
 use Rattle.head.proofs.Steps.{unlisted, fits, overruns, at-end, inside}
 use Rattle.head.proofs.Filled.{stop-within}
-use Rattle.de.specs.Walk.{Run, after, turn, run, runOf}
+use Rattle.de.specs.Walk.{turn, run, runOf}
 use Rattle.de.specs.Cut.{eventAt, eventsRead}
 use Rattle.grammar.specs.WellFormed.{Each}
 use Rattle.grammar.proofs.Exactly.{Byte}

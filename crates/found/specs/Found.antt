@@ -2,14 +2,14 @@
 -- Assumes nothing.
 use Prim.Native.Nat.{ℕ}
 use mathlib.Core.Path.{_≡_}
-use mathlib.Core.Bool.{Bool, true, false, not, _&&_, _||_}
+use mathlib.Core.Bool.{Bool, true, not, _||_}
 use mathlib.Core.List.{List, [], _∷_}
 use lib.Dec.{eqb, ltb}
 use lib.ListN.{length, getD}
 use Rattle.format.specs.Event.{codeOf}
 use Rattle.format.specs.File.{Ev}
 use Rattle.format.specs.Refusal.{refuse, lowest}
-use Rattle.format.specs.Version.{version, acceptedOf, gteOf}
+use Rattle.format.specs.Version.{version, acceptedOf}
 use Rattle.format.specs.declared.event.Event.the-variants.{GameStart, GeckoCodes}
 use Rattle.format.specs.declared.version.Version.{Version}
 use Rattle.head.specs.Table.{allPresent, tableOf, spanOf}

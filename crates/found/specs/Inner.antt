@@ -7,13 +7,15 @@ use mathlib.Core.List.{List, [], _∷_, _++_}
 use lib.Dec.{eqb, leb, ltb}
 use lib.ListN.{length, getD, drop}
 use Rattle.wire.specs.Wire.{part, ranged}
+use Rattle.format.specs.Event.{codeOf}
 use Rattle.format.specs.File.{Ev, eventsBytes}
 use Rattle.format.specs.Version.{version}
-use Rattle.format.specs.declared.event.Event.the-variants.{GameStart}
+use Rattle.format.specs.declared.event.Event.the-variants.{GameStart, GeckoCodes}
 use Rattle.format.specs.declared.version.Version.{Version}
 use Rattle.layout.specs.Columns.{hasFamily}
 use Rattle.layout.specs.Payloads.{endSize}
 use Rattle.layout.specs.declared.columns.Family.the-variants.{FrameStart}
+use Rattle.game.specs.Frames.{isMarked}
 use Rattle.start.specs.Length.{lengthOf}
 use Rattle.start_read.specs.Start.{seatsFit}
 use Rattle.head.specs.Table.{tableOf, firstPlace, stopOf, spanOf, allPresent}
@@ -24,7 +26,6 @@ use Rattle.grammar.specs.Readable.{Changing}
 use Rattle.columns.specs.Columns.{framesRead, everIn}
 use Rattle.outline.specs.Listed.{codesBytes}
 use Rattle.frame_scan.specs.declared.tally.Tally.{Tally}
-use Rattle.frame_scan.specs.Counts.{isMarked}
 use Rattle.found.specs.Found.{versionOf, earlyRefusal, offsetOf, Found, tooBig}
 use Rattle.found.specs.declared.first.First.{First}
 use Rattle.found.specs.declared.first.First.the-variants.{Opens, Other}
@@ -44,12 +45,12 @@ Bytes f = (i : ℕ) → getD f i 0 < 256
 -- a GameStart of at least four bytes, whole before stop
 unfoldable pub opensAt : List ℕ → List ℕ → ℕ → ℕ → Bool
 opensAt f spans first stop =
-    let span = getD spans 0x36 0 in
-    ltb first stop && (eqb (getD f first 0) 0x36 && (leb 5 span && leb (first + span) stop))
+    let span = getD spans (codeOf GameStart) 0 in
+    ltb first stop && (eqb (getD f first 0) (codeOf GameStart) && (leb 5 span && leb (first + span) stop))
 
 unfoldable pub firstAt : List ℕ → List ℕ → ℕ → ℕ → First
 firstAt f spans first stop =
-    cond (opensAt f spans first stop) (Opens (version (getD f (first + 1) 0) (getD f (first + 2) 0) (getD f (first + 3) 0)) (getD spans 0x36 0 - 1)) Other
+    cond (opensAt f spans first stop) (Opens (version (getD f (first + 1) 0) (getD f (first + 2) 0) (getD f (first + 3) 0)) (getD spans (codeOf GameStart) 0 - 1)) Other
 
 -- ---- the events from a place on
 
@@ -73,7 +74,7 @@ pub record Ready (f spans : List ℕ) (v : Version) (first stop len : ℕ) : Typ
   pub stop-is : stop ≡ stopOf f
   pub within : stop ≤ length f
   pub many : length spans ≡ 256
-  pub listed : getD spans 0x3D 0 ≡ spanOf 0x3D (tableOf f)
+  pub listed : getD spans (codeOf GeckoCodes) 0 ≡ spanOf (codeOf GeckoCodes) (tableOf f)
 
 unfoldable pub startFits : Version → List ℕ → Bool
 startFits v block = leb (lengthOf v) (length block) && seatsFit block

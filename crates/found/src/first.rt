@@ -3,6 +3,7 @@ ghost use mathlib.Core.Path.{_≡_};
 ghost use Prim.Native.Nat.{_≤_};
 ghost use lib.ListN.{length};
 ghost use Rattle.found.specs.Inner.{firstAt};
+use format::event::GAME_START;
 use format::version::Version;
 
 // A GameStart of at least four bytes, which says a version; or anything else.
@@ -16,8 +17,8 @@ pub fn first_event(file: &[u8], spans: &[u32], first: usize, stop: usize) -> Fir
     ensures { λ r. ⌜ r ≡ firstAt (now (file .entry)) (now (spans .entry)) first stop ⌝ }
 {
     if first < stop {
-        if file[first] == 0x36 {
-            let span = frame_scan::event::span_of(spans, 0x36);
+        if file[first] == GAME_START {
+            let span = frame_scan::event::span_of(spans, GAME_START);
             if 5 <= span {
                 if span <= stop - first {
                     let version = Version::new(file[first + 1], file[first + 2], file[first + 3]);

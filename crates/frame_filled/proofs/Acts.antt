@@ -1,9 +1,9 @@
 -- What each event does to a store of players, frame by frame.
 -- Assumes nothing.
-use mathlib.Core.Path.{_≡_, refl, sym, ap, ap₂, _∙_}
+use mathlib.Core.Path.{_≡_, refl, sym, ap, _∙_}
 use mathlib.Core.Bool.{Bool, true, false}
-use mathlib.Core.List.{List, [], _∷_, _++_, map, append-nil}
-use Prim.Native.Nat.{ℕ, suc, _+_, _≤_, _<_}
+use mathlib.Core.List.{List, [], _∷_, _++_, map}
+use Prim.Native.Nat.{ℕ, _+_, _≤_}
 use native.Mathlib.Omega.{arith}
 use lib.Dec.{eqb}
 use lib.ListN.{length}
@@ -14,9 +14,9 @@ use Rattle.format.specs.declared.version.Version.{Version}
 use Rattle.layout.specs.Columns.{hasFamily}
 use Rattle.layout.specs.Payloads.{eventOf}
 use Rattle.layout.specs.declared.columns.Family.{Family}
-use Rattle.layout.specs.declared.columns.Family.the-variants.{Pre, Post, FrameStart, Item, FrameEnd, FodPlatform, DreamlandWhispy, StadiumTransformation}
+use Rattle.layout.specs.declared.columns.Family.the-variants.{FrameStart}
 use Rattle.game.specs.Stores.{Lent}
-use Rattle.grammar.specs.Productions.{Player, Frame, rowEvent, preEvent, postEvent, frameEvents, framesEvents}
+use Rattle.grammar.specs.Productions.{Frame, rowEvent, frameEvents, framesEvents}
 use Rattle.grammar.specs.WellFormed.{Each, ascending, GoodFrame}
 use Rattle.grammar.specs.Readable.{Changing}
 use Rattle.frame_fill.specs.Inner.{Plan, toldBy, seenAfter, playerPut, bitPut, step, run, finish}

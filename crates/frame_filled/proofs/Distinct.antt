@@ -1,9 +1,9 @@
 -- A frame's players have each its own slot, and what a player's event says is the player's.
 -- Assumes nothing.
-use mathlib.Core.Path.{_≡_, refl, sym, ap, _∙_}
+use mathlib.Core.Path.{_≡_, refl, sym}
 use mathlib.Core.Bool.{Bool, true, false, _&&_, _||_}
 use mathlib.Core.List.{List, [], _∷_, _++_, map}
-use Prim.Native.Nat.{ℕ, _+_, _*_, _<_}
+use Prim.Native.Nat.{ℕ, _<_}
 use native.Mathlib.Omega.{arith}
 use borrow.Author.Tests.{ltb-true, eqb-true, ne-eqb}
 use lib.Dec.{eqb, ltb}
@@ -11,7 +11,7 @@ use Rattle.wire.specs.Wire.{be}
 use Rattle.format.proofs.Versions.{no-way}
 use Rattle.layout.specs.declared.columns.Family.{Family}
 use Rattle.grammar.specs.Productions.{Player, rowEvent}
-use Rattle.grammar.specs.WellFormed.{slotOf, nobody, before, mayCome, InOrder, ascending}
+use Rattle.grammar.specs.WellFormed.{slotOf, before, mayCome, InOrder, ascending}
 use Rattle.columns.specs.Columns.{holds}
 use Rattle.frame_fill.specs.Inner.{toldBy}
 

@@ -4,19 +4,18 @@ use mathlib.Core.Path.{_≡_, refl, sym, ap, ap₂, _∙_}
 use mathlib.Core.Bool.{Bool, true, false, not, cond, _&&_, _||_}
 use mathlib.Core.Logic.{_⊎_, inl, inr}
 use mathlib.Core.List.{List, [], _∷_, _++_, map, append-nil}
-use Prim.Native.Nat.{ℕ, suc, _+_, _%_, _^_, _≤_, _<_}
+use Prim.Native.Nat.{ℕ, _+_, _%_, _^_, _≤_, _<_}
 use native.Mathlib.Numerals.{add-one}
 use native.Mathlib.Omega.{arith}
 use borrow.Author.Tests.{lt-ltb, eq-eqb, ne-eqb}
 use lib.Dec.{eqb, ltb}
-use lib.ListN.{length, set, take, length-append}
+use lib.ListN.{length, set, length-append}
 use lib.Seq.{take-at}
 use Rattle.wire.specs.Wire.{be, number, keep, splice}
 use Rattle.wire.proofs.Laws.{length-be, number-be}
 use Rattle.format.specs.Event.{codeOf}
 use Rattle.format.specs.File.{Ev}
 use Rattle.format.specs.declared.version.Version.{Version}
-use Rattle.format.proofs.Versions.{no-way}
 use Rattle.layout.specs.Columns.{hasFamily}
 use Rattle.layout.specs.Payloads.{eventOf}
 use Rattle.layout.specs.declared.columns.Family.{Family}

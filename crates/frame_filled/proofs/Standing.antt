@@ -1,16 +1,15 @@
 -- Frames that stand in a file are events of the sizes of their codes, and the pass leaves their ids, rows and offsets in the stores.
 -- Assumes nothing.
-use mathlib.Core.Path.{_≡_, refl, sym, ap, subst, _∙_}
+use mathlib.Core.Path.{_≡_, refl, sym, ap, _∙_}
 use mathlib.Core.Bool.{Bool, true, false}
-use mathlib.Core.Logic.{_⊎_, inl, inr}
+use mathlib.Core.Logic.{inl}
 use mathlib.Core.List.{List, [], _∷_, _++_, map}
-use Prim.Native.Nat.{ℕ, suc, _+_, _≤_, _<_}
+use Prim.Native.Nat.{ℕ, _+_, _≤_, _<_}
 use native.Mathlib.Omega.{arith}
 use lib.ListN.{length, length-append}
 use Rattle.wire.specs.Wire.{be, keep, splice}
 use Rattle.wire.proofs.Laws.{length-be, splice-nil}
 use Rattle.format.specs.Event.{codeOf}
-use Rattle.format.specs.File.{Ev, eventBytes, eventsBytes}
 use Rattle.format.specs.declared.version.Version.{Version}
 use Rattle.layout.specs.Columns.{hasFamily, widthsOf, sizeOf}
 use Rattle.layout.specs.Payloads.{eventOf}
@@ -25,7 +24,7 @@ use Rattle.grammar.proofs.Each.{each-both}
 use Rattle.columns.specs.Columns.{framesRead, idsRead, rowsHere, rowsThere, cellColumns, rowsCells, offsetsRead, totals}
 use Rattle.columns.specs.Inner.{into}
 use Rattle.frame_fill.specs.Inner.{Plan, planOf, spanBy, spanIn, Sized, Spelled, Stands, Rooms, Roomy, run, none, cleared}
-use Rattle.frame_filled.proofs.RowRuns.{Rowed, rowed, rowRun, put, picked, inOrder, all-frames, filled, picked-start, picked-end, picked-item, picked-fod, picked-whispy, picked-stadium, starts-run, ends-run, items-run, fods-run, whispys-run, stadiums-run}
+use Rattle.frame_filled.proofs.RowRuns.{Rowed, rowed, rowRun, picked, inOrder, all-frames, filled, picked-start, picked-end, picked-item, picked-fod, picked-whispy, picked-stadium, starts-run, ends-run, items-run, fods-run, whispys-run, stadiums-run}
 use Rattle.frame_filled.proofs.Opens.{openAt, Fresh, ids-run, ids-frames, offRun, off-frames, off-none, item-offsets-run, fod-offsets-run, whispy-offsets-run, stadium-offsets-run}
 
 -- ---- sizes

@@ -8,21 +8,21 @@ use native.Mathlib.Nat.{suc-mul}
 use native.Mathlib.Omega.{arith}
 use borrow.Author.Tests.{eq-eqb, ne-eqb}
 use lib.Dec.{ltb, eqb}
-use Rattle.grammar.specs.WellFormed.{Order, nobody, before, mayCome}
-use Rattle.frame_order.specs.Inner.{orderOf, slotAt, dueIn}
+use Rattle.grammar.specs.WellFormed.{Order, ascending, anyhow, nobody, before, mayCome}
+use Rattle.frame_order.specs.Inner.{slotAt, dueIn}
 
-module _ (any right : Bool) (j k : ℕ) where
-  pub before-other : any ≡ true → (j / 2 ≡ k / 2 → ⊥) → true ≡ before (orderOf any) right j k
+module _ (right : Bool) (j k : ℕ) where
+  pub before-other : (j / 2 ≡ k / 2 → ⊥) → true ≡ before anyhow right j k
   unfolding before
-  before-other e h = rw e (rw (ne-eqb (j / 2) (k / 2) h))
+  before-other h = rw (ne-eqb (j / 2) (k / 2) h)
 
-  pub before-same : any ≡ true → j / 2 ≡ k / 2 → (right && ltb j k) ≡ before (orderOf any) right j k
+  pub before-same : j / 2 ≡ k / 2 → (right && ltb j k) ≡ before anyhow right j k
   unfolding before
-  before-same e h = rw e (rw (eq-eqb (j / 2) (k / 2) h))
+  before-same h = rw (eq-eqb (j / 2) (k / 2) h)
 
-  pub before-rising : any ≡ false → ltb j k ≡ before (orderOf any) right j k
+  pub before-rising : ltb j k ≡ before ascending right j k
   unfolding before
-  before-rising e = rw e
+  before-rising = refl
 
 one-more : (n span : ℕ) → 0 < n → n * span ≡ span + (n - 1) * span
 one-more zero span h = absurd (omega arith)

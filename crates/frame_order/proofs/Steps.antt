@@ -15,10 +15,10 @@ use Rattle.layout.specs.declared.columns.Family.the-variants.{Pre, Post, FrameS
 use Rattle.grammar.specs.WellFormed.{nobody, Order, mayCome}
 use Rattle.grammar.specs.Machine.{slotSaid, isNext, closed, inFrame, player, orderly, state, rankOf, dueAfter, after}
 use Rattle.frame_order.specs.Inner.{slotAt, dueIn, saidOf, stateIn, inside, closedAt, stands, nextAt, endAt, JoinedAt, Ready, After, RowAfter}
-use Rattle.frame_order.specs.declared.place.Place.{Place}
-use Rattle.frame_order.specs.declared.place.Word.{Word}
+use Rattle.frame_order.specs.declared.stage.Stage.{Stage}
+use Rattle.frame_order.specs.declared.stage.Word.{Word}
 
-module _ (m : Place) (rank : ℕ) (w : Word) where
+module _ (m : Stage) (rank : ℕ) (w : Word) where
   pub inside-is : m .rank ≤ rank → eqb (m .id) (w .id) ≡ inside m rank w
   unfolding inside
   inside-is h = rw (le-leb (m .rank) rank h)
@@ -36,7 +36,7 @@ module _ (w : Word) where
   unfolding player
   player-not h = rw (lt-leb (w .port) 3 h)
 
-module _ (v : Version) (m : Place) where
+module _ (v : Version) (m : Stage) where
   pub closed-due : (m .due ≡ 0 → ⊥) → false ≡ closedAt v m
   unfolding closedAt
   closed-due h = rw (ne-eqb (m .due) 0 h)
@@ -49,7 +49,7 @@ module _ (v : Version) (m : Place) where
   unfolding closedAt
   closed-lacks h b e t = rw (eq-eqb (m .due) 0 h, sym e ∙ t)
 
-module _ (v : Version) (o : Order) (file : List ℕ) (span : ℕ) (m : Place) (w : Word) where
+module _ (v : Version) (o : Order) (file : List ℕ) (span : ℕ) (m : Stage) (w : Word) where
   nobody-is : (n p : ℕ) → nobody (dueIn file span p n) ≡ eqb n 0
   unfolding nobody dueIn
   nobody-is zero p = refl
@@ -79,7 +79,7 @@ module _ (v : Version) (o : Order) (file : List ℕ) (span : ℕ) (m : Place) (w
 
 -- ---- where a Pre may stand
 
-module _ (v : Version) (m : Place) (w : Word) (i : Bool) (i-is : i ≡ inside m 2 w) where
+module _ (v : Version) (m : Stage) (w : Word) (i : Bool) (i-is : i ≡ inside m 2 w) where
   pub stands-inside : i ≡ true → true ≡ stands v m w
   unfolding stands
   stands-inside t = rw (sym i-is ∙ t)
@@ -100,7 +100,7 @@ third true true n q = ltb-true 0 n q
 third true false n q = let y : _≡_ {A = ℕ} 0 1 = cc in absurd (omega arith)
 third false p n q = let y : _≡_ {A = ℕ} 0 1 = cc in absurd (omega arith)
 
-module _ (file : List ℕ) (span : ℕ) (m : Place) (w : Word) where
+module _ (file : List ℕ) (span : ℕ) (m : Stage) (w : Word) where
   pub next-not : (i p : Bool) → i ≡ inside m 7 w → p ≡ player (saidOf w) → (i && p && ltb 0 (m .due)) ≡ false → false ≡ nextAt file span m w
   unfolding nextAt isNext dueIn
   next-not i p x y q = go i p (m .due) q ∙ rw (x, y)
@@ -122,7 +122,7 @@ module _ (file : List ℕ) (span : ℕ) (m : Place) (w : Word) where
       go true true zero q = let z : _≡_ {A = Bool} false true = sym (le-ltb 0 0 (omega arith)) ∙ q in let y : _≡_ {A = ℕ} 0 1 = cc in absurd (omega arith)
       go true true (suc n) q = rw (a, b)
 
-module _ (m : Place) (w : Word) where
+module _ (m : Stage) (w : Word) where
   pub end-is : (i : Bool) → i ≡ inside m 7 w → i ≡ true → eqb (m .due) 0 ≡ endAt m w
   unfolding endAt
   end-is i e t = rw (sym e ∙ t)
@@ -131,7 +131,7 @@ module _ (m : Place) (w : Word) where
   unfolding endAt
   end-not i e t = rw (sym e ∙ t)
 
-module _ (v : Version) (o : Order) (file : List ℕ) (span : ℕ) (m : Place) (w : Word) (r : Bool) where
+module _ (v : Version) (o : Order) (file : List ℕ) (span : ℕ) (m : Stage) (w : Word) (r : Bool) where
   abbrev Answers : Family → Type 0
   Answers family = r ≡ orderly v o (stateIn file span m) family (saidOf w)
 
@@ -181,7 +181,7 @@ one-less : (n span : ℕ) → 0 < n → span + (n - 1) * span ≡ n * span
 one-less zero span h = absurd (omega arith)
 one-less (suc n) span h = let e : suc n - 1 ≡ n = omega arith in let s = suc-mul n span in rw e (omega arith)
 
-module _ (file : List ℕ) (span : ℕ) (m : Place) (w : Word) (at next : ℕ) (h : JoinedAt file span m w at next) where
+module _ (file : List ℕ) (span : ℕ) (m : Stage) (w : Word) (at next : ℕ) (h : JoinedAt file span m w at next) where
   pub pre-first : m .due ≡ 0 → After file span m w next Pre (record { rank = 2; id = w .id; pre = at; due = 1 })
   unfolding dueIn dueAfter
   pre-first e =
@@ -201,7 +201,7 @@ module _ (file : List ℕ) (span : ℕ) (m : Place) (w : Word) (at next : ℕ) (
         held = record { inside = omega arith; joined = λ x y. omega arith };
       }
 
-pub post-less : (file : List ℕ) (span : ℕ) (m : Place) (w : Word) (next : ℕ) → 0 < m .due → m .pre + m .due * span ≤ next
+pub post-less : (file : List ℕ) (span : ℕ) (m : Stage) (w : Word) (next : ℕ) → 0 < m .due → m .pre + m .due * span ≤ next
     → After file span m w next Post (record { rank = 7; id = w .id; pre = m .pre + span; due = m .due - 1 })
 unfolding dueIn dueAfter
 post-less file span m w next h k =
@@ -212,19 +212,19 @@ post-less file span m w next h k =
     go zero h = absurd (omega arith)
     go (suc n) h = let e : suc n - 1 ≡ n = omega arith in rw e
 
-pub row-same : (file : List ℕ) (span : ℕ) (m : Place) (rank : ℕ) (w : Word) (next : ℕ) → (rank ≤ 2 → m .due ≡ 0) → m .pre + m .due * span ≤ next
+pub row-same : (file : List ℕ) (span : ℕ) (m : Stage) (rank : ℕ) (w : Word) (next : ℕ) → (rank ≤ 2 → m .due ≡ 0) → m .pre + m .due * span ≤ next
     → RowAfter file span m rank w next (record { rank = rank; id = w .id; pre = m .pre; due = m .due })
 row-same file span m rank w next z k = record { state-is = refl; held = record { inside = k; joined = λ x y. absurd (y (z x)) } }
 
 -- an event of nobody changes nobody
-module _ (file : List ℕ) (span : ℕ) (m : Place) (w : Word) where
+module _ (file : List ℕ) (span : ℕ) (m : Stage) (w : Word) where
   pub ready-as : (at next : ℕ) (family one : Family) → family ≡ one → Ready file span m w at next family → Ready file span m w at next one
   ready-as at next family one e h = subst (λ (f : Family). Ready file span m w at next f) e h
 
-  pub after-as : (next : ℕ) (family one : Family) (r : Place) → family ≡ one → After file span m w next one r → After file span m w next family r
+  pub after-as : (next : ℕ) (family one : Family) (r : Stage) → family ≡ one → After file span m w next one r → After file span m w next family r
   after-as next family one r e h = subst (λ (f : Family). After file span m w next f r) (sym e) h
 
-  pub row-after : (next : ℕ) (family : Family) (r : Place) → ((ks : List ℕ) (k : ℕ) → dueAfter family ks k ≡ ks) → RowAfter file span m (rankOf family) w next r
+  pub row-after : (next : ℕ) (family : Family) (r : Stage) → ((ks : List ℕ) (k : ℕ) → dueAfter family ks k ≡ ks) → RowAfter file span m (rankOf family) w next r
       → After file span m w next family r
   row-after next family r same h = record { state-is = h .state-is ∙ ap (λ (l : List ℕ). state (rankOf family) (w .id) l) (sym (same _ _)); held = h .held }
 

@@ -3,24 +3,24 @@ ghost use mathlib.Core.Path.{_≡_};
 ghost use Prim.Native.Nat.{_+_, _*_, _^_, _≤_, _<_};
 ghost use Rattle.layout.specs.declared.columns.Family.the-variants.{Pre, Post};
 ghost use Rattle.frame_order.specs.Inner.{JoinedAt, Ready, After, RowAfter};
-use crate::place::Place;
-use crate::place::Word;
+use crate::stage::Stage;
+use crate::stage::Word;
 use layout::columns::Family;
 
 // Those whose Post is to come, after a Pre at `at` that follows their own.
-fn with_pre(file: &[u8], span: usize, m: Place, w: Word, at: usize, next: usize) -> Place
+fn with_pre(file: &[u8], span: usize, m: Stage, w: Word, at: usize, next: usize) -> Stage
     requires { ⌜ JoinedAt (now file) span m w at next ⌝ }
     ensures { λ r. ⌜ After (now (file .entry)) span m w next Pre r ⌝ }
 {
     if m.due == 0 {
-        return Place {
+        return Stage {
             rank: 2,
             id: w.id,
             pre: at,
             due: 1,
         };
     }
-    Place {
+    Stage {
         rank: 2,
         id: w.id,
         pre: m.pre,
@@ -28,12 +28,12 @@ fn with_pre(file: &[u8], span: usize, m: Place, w: Word, at: usize, next: usize)
     }
 }
 
-// And after the first one's Post.
-fn with_post(file: &[u8], span: usize, m: Place, w: Word, next: usize) -> Place
+// Those whose Post is to come, after the first one's Post.
+fn with_post(file: &[u8], span: usize, m: Stage, w: Word, next: usize) -> Stage
     requires { ⌜ (0 < m .due) × (m .pre + span < 2 ^ 64) × (m .pre + m .due * span ≤ next) ⌝ }
     ensures { λ r. ⌜ After (now (file .entry)) span m w next Post r ⌝ }
 {
-    Place {
+    Stage {
         rank: 7,
         id: w.id,
         pre: m.pre + span,
@@ -41,12 +41,12 @@ fn with_post(file: &[u8], span: usize, m: Place, w: Word, next: usize) -> Place
     }
 }
 
-// And after an event of nobody.
-fn with_row(file: &[u8], span: usize, m: Place, rank: u8, w: Word, next: usize) -> Place
+// Those whose Post is to come, after an event of nobody: they stay.
+fn with_row(file: &[u8], span: usize, m: Stage, rank: u8, w: Word, next: usize) -> Stage
     requires { ⌜ (rank ≤ 2 → m .due ≡ 0) × (m .pre + m .due * span ≤ next) ⌝ }
     ensures { λ r. ⌜ RowAfter (now (file .entry)) span m rank w next r ⌝ }
 {
-    Place {
+    Stage {
         rank: rank,
         id: w.id,
         pre: m.pre,
@@ -58,12 +58,12 @@ fn with_row(file: &[u8], span: usize, m: Place, rank: u8, w: Word, next: usize) 
 pub fn moved(
     file: &[u8],
     span: usize,
-    m: Place,
+    m: Stage,
     family: Family,
     w: Word,
     at: usize,
     next: usize,
-) -> Place
+) -> Stage
     requires { ⌜ Ready (now file) span m w at next family × (m .pre + m .due * span ≤ next) ⌝ }
     ensures { λ r. ⌜ After (now (file .entry)) span m w next family r ⌝ }
 {

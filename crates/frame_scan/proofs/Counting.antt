@@ -11,8 +11,8 @@ use Rattle.layout.specs.declared.columns.Family.the-variants.{Pre, Post, FrameS
 use Rattle.grammar.specs.Machine.{Said, slotSaid, player}
 use Rattle.grammar.proofs.Tests.{both}
 use Rattle.frame_order.specs.Inner.{saidOf, inside}
-use Rattle.frame_order.specs.declared.place.Place.{Place}
-use Rattle.frame_order.specs.declared.place.Word.{Word}
+use Rattle.frame_order.specs.declared.stage.Stage.{Stage}
+use Rattle.frame_order.specs.declared.stage.Word.{Word}
 use Rattle.frame_scan.specs.Counts.{begunAt, sat, ofFrame, countedOf, Under}
 use Rattle.frame_scan.specs.declared.tally.Tally.{Tally}
 
@@ -22,7 +22,7 @@ player-few w q = let (a, b) = both (leb (w .port) 3) (leb (w .follower) 1) q in 
 
 -- ---- a Pre
 
-module _ (t : Tally) (m : Place) (w : Word) (b : Bool) (b-is : b ≡ inside m 2 w) where
+module _ (t : Tally) (m : Stage) (w : Word) (b : Bool) (b-is : b ≡ inside m 2 w) where
   pub pre-of-frame : b ≡ true → (r : Tally) → r ≡ sat t (slotSaid (saidOf w)) → r ≡ countedOf t (m .rank) (m .id) Pre (saidOf w)
   unfolding countedOf ofFrame inside
   pre-of-frame e r q = q ∙ ap (λ (c : Bool). sat (cond c t (begunAt t (m .id) (w .id))) (slotSaid (saidOf w))) (sym (sym b-is ∙ e))

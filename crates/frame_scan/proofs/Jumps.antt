@@ -14,15 +14,16 @@ use Rattle.format.specs.declared.version.Version.{Version}
 use Rattle.layout.specs.Payloads.{recordSize}
 use Rattle.layout.specs.declared.columns.Family.{Family}
 use Rattle.layout.specs.declared.columns.Family.the-variants.{Pre, Post, FrameStart, Item, FrameEnd, FodPlatform, DreamlandWhispy, StadiumTransformation}
+use Rattle.game.specs.Frames.{isMarked}
 use Rattle.grammar.specs.WellFormed.{Order}
 use Rattle.grammar.specs.Machine.{familyOf, Said, State, slotSaid, closed}
 use Rattle.grammar.proofs.Tests.{both, or-true}
 use Rattle.frame_order.specs.Inner.{saidOf, stateIn, closedAt}
-use Rattle.frame_order.specs.declared.place.Place.{Place}
-use Rattle.frame_order.specs.declared.place.Word.{Word}
+use Rattle.frame_order.specs.declared.stage.Stage.{Stage}
+use Rattle.frame_order.specs.declared.stage.Word.{Word}
 use Rattle.frame_order.proofs.Steps.{closed-is}
-use Rattle.frame_scan.specs.Counts.{noTally, isMarked, begunAt, ofFrame, countedOf, Under}
-use Rattle.frame_scan.specs.Inner.{noPlace, kindOf, Asked, Gone, saidAt, spanAt, takesAt, scan, tallied}
+use Rattle.frame_scan.specs.Counts.{noTally, begunAt, ofFrame, countedOf, Under}
+use Rattle.frame_scan.specs.Inner.{noStage, kindOf, Asked, Gone, saidAt, spanAt, takesAt, scan, tallied}
 use Rattle.frame_scan.specs.Alike.{idAt, Hops, Eight, beginOf, runId, runTally, onId}
 use Rattle.frame_scan.specs.declared.event.Kind.the-variants.{Frame}
 use Rattle.frame_scan.specs.declared.tally.Tally.{Tally}
@@ -61,7 +62,7 @@ counted-marks y rank id family w e = ap (λ (f : Family). isMarked (countedOf y 
 -- ---- the invariant
 
 -- the answers are those of what is left, and the events since `last` are a path
-pub record Turned (v : Version) (o : Order) (file spans : List ℕ) (stop span first : ℕ) (m : Place) (at : ℕ) (y : Tally) (last : ℕ) : Type 0 where
+pub record Turned (v : Version) (o : Order) (file spans : List ℕ) (stop span first : ℕ) (m : Stage) (at : ℕ) (y : Tally) (last : ℕ) : Type 0 where
   pub turning : Turning v o file spans stop span first m at y
   pub behind : last ≤ at
   pub events : ℕ
@@ -70,24 +71,24 @@ pub record Turned (v : Version) (o : Order) (file spans : List ℕ) (stop span f
   pub path : Path v o file spans stop (y .slots) events last state₀ tally₀ at (stateIn file span m) y
 
 module _ (v : Version) (o : Order) (file spans : List ℕ) (stop span first : ℕ) where
-  at-first : first ≤ stop → stop ≤ length file → span ≡ 1 + recordSize Pre v → (y : Tally) → y ≡ noTally → Turned v o file spans stop span first noPlace first y first
+  at-first : first ≤ stop → stop ≤ length file → span ≡ 1 + recordSize Pre v → (y : Tally) → y ≡ noTally → Turned v o file spans stop span first noStage first y first
   at-first h k s y e = record {
     turning = turn-first v o file spans stop span first h k s y e;
     behind = omega arith;
     events = 0;
-    state₀ = stateIn file span noPlace;
+    state₀ = stateIn file span noStage;
     tally₀ = y;
-    path = path-none v o file spans stop (y .slots) first (stateIn file span noPlace) y;
+    path = path-none v o file spans stop (y .slots) first (stateIn file span noStage) y;
   }
 
-  pub turned-first : first ≤ stop → stop ≤ length file → span ≡ 1 + recordSize Pre v → (m : Place) → m ≡ noPlace → (y : Tally) → y ≡ noTally
+  pub turned-first : first ≤ stop → stop ≤ length file → span ≡ 1 + recordSize Pre v → (m : Stage) → m ≡ noStage → (y : Tally) → y ≡ noTally
       → Turned v o file spans stop span first m first y first
-  turned-first h k s m q y e = subst (λ (x : Place). Turned v o file spans stop span first x first y first) (sym q) (at-first h k s y e)
+  turned-first h k s m q y e = subst (λ (x : Stage). Turned v o file spans stop span first x first y first) (sym q) (at-first h k s y e)
 
   -- a path is so many turns
-  turn-path : (m : Place) (at : ℕ) (y : Tally) → Turning v o file spans stop span first m at y
+  turn-path : (m : Stage) (at : ℕ) (y : Tally) → Turning v o file spans stop span first m at y
       → (slots n at′ : ℕ) (z : State) (u : Tally) → Path v o file spans stop slots n at (stateIn file span m) y at′ z u
-      → (m′ : Place) → Asked v file span stop m′ at′ → stateIn file span m′ ≡ z → Under u at′ → Turning v o file spans stop span first m′ at′ u
+      → (m′ : Stage) → Asked v file span stop m′ at′ → stateIn file span m′ ≡ z → Under u at′ → Turning v o file spans stop span first m′ at′ u
   turn-path m at y t slots n at′ z u p m′ a e h =
       let long = path-long v o file spans stop slots n at (stateIn file span m) y at′ z u p .0 in
       let k = t .left - n in
@@ -103,11 +104,11 @@ module _ (v : Version) (o : Order) (file spans : List ℕ) (stop span first : �
         under = h;
       }
 
-  module _ (m : Place) (at : ℕ) (y : Tally) (last : ℕ) (t : Turned v o file spans stop span first m at y last) where
+  module _ (m : Stage) (at : ℕ) (y : Tally) (last : ℕ) (t : Turned v o file spans stop span first m at y last) where
     -- ---- one event
 
     module _ (l : at < stop) (code : ℕ) (code-is : code ≡ getD file at 0) (family : Family) (k : kindOf (familyOf code) ≡ Frame family) (n : ℕ) (n-is : n ≡ getD spans code 0)
-        (place : Place) (next : ℕ) (w : Word) (g : Gone v o file span stop m at n family place next w) (z : Tally) (z-is : z ≡ countedOf y (m .rank) (m .id) family (saidOf w)) where
+        (stage : Stage) (next : ℕ) (w : Word) (g : Gone v o file span stop m at n family stage next w) (z : Tally) (z-is : z ≡ countedOf y (m .rank) (m .id) family (saidOf w)) where
       abbrev now-at : State
       now-at = stateIn file span m
 
@@ -128,27 +129,27 @@ module _ (v : Version) (o : Order) (file spans : List ℕ) (stop span first : �
       kept-here : (j : ℕ) → isMarked (y .slots) j ≡ true → isMarked (z .slots) j ≡ true
       kept-here j h = ap (λ (x : Tally). isMarked (x .slots) j) counted-here ∙ counted-keeps y (m .rank) (m .id) family (saidAt file at) j h
 
-      with-event : (j from : ℕ) (s : State) (x : Tally) → from ≤ at → Path v o file spans stop (z .slots) j from s x at now-at y → Turned v o file spans stop span first place next z from
+      with-event : (j from : ℕ) (s : State) (x : Tally) → from ≤ at → Path v o file spans stop (z .slots) j from s x at now-at y → Turned v o file spans stop span first stage next z from
       with-event j from s x b p = record {
-        turning = turn-goes v o file spans stop span first m at y (t .turning) l code code-is family k n n-is place next w g z z-is;
+        turning = turn-goes v o file spans stop span first m at y (t .turning) l code code-is family k n n-is stage next w g z z-is;
         behind = omega (arith, g .later);
         events = suc j;
         state₀ = s;
         tally₀ = x;
         path =
-            path-snoc v o file spans stop (z .slots) j from s x at now-at y p family step-here next (g .next-is ∙ ap (λ (i : ℕ). at + i) span-here) (stateIn file span place)
+            path-snoc v o file spans stop (z .slots) j from s x at now-at y p family step-here next (g .next-is ∙ ap (λ (i : ℕ). at + i) span-here) (stateIn file span stage)
             (g .state-is) z counted-here;
       }
 
-      from-here : Turned v o file spans stop span first place next z at
+      from-here : Turned v o file spans stop span first stage next z at
       from-here = with-event 0 at now-at y (omega arith) (path-none v o file spans stop (z .slots) at now-at y)
 
-      from-last : Turned v o file spans stop span first place next z last
+      from-last : Turned v o file spans stop span first stage next z last
       from-last =
           with-event (t .events) last (t .state₀) (t .tally₀) (t .behind)
           (path-more v o file spans stop (y .slots) (z .slots) kept-here (t .events) last (t .state₀) (t .tally₀) at now-at y (t .path))
 
-      go-on : (f : Family) → Turned v o file spans stop span first place next z (beginOf f last at)
+      go-on : (f : Family) → Turned v o file spans stop span first stage next z (beginOf f last at)
       go-on Pre = from-last
       go-on Post = from-last
       go-on FrameStart = from-here
@@ -158,8 +159,8 @@ module _ (v : Version) (o : Order) (file spans : List ℕ) (stop span first : �
       go-on DreamlandWhispy = from-here
       go-on StadiumTransformation = from-here
 
-      pub turned-goes : (from : ℕ) → from ≡ beginOf family last at → Turned v o file spans stop span first place next z from
-      turned-goes from e = subst (λ (i : ℕ). Turned v o file spans stop span first place next z i) (sym e) (go-on family)
+      pub turned-goes : (from : ℕ) → from ≡ beginOf family last at → Turned v o file spans stop span first stage next z from
+      turned-goes from e = subst (λ (i : ℕ). Turned v o file spans stop span first stage next z i) (sym e) (go-on family)
 
     -- ---- eight frames
 
@@ -173,8 +174,8 @@ module _ (v : Version) (o : Order) (file spans : List ℕ) (stop span first : �
       abbrev tallyOf : ℕ → Tally
       tallyOf i = runTally file at step (m .id) y i
 
-      abbrev placeOf : ℕ → Place
-      placeOf i = onId m (idOf i)
+      abbrev stageOf : ℕ → Stage
+      stageOf i = onId m (idOf i)
 
       same-slots : (i : ℕ) → tallyOf i .slots ≡ y .slots
       unfolding runTally
@@ -210,45 +211,45 @@ module _ (v : Version) (o : Order) (file spans : List ℕ) (stop span first : �
         hops = path-long v o file spans stop (y .slots) (suc n) last s₀ y₀ at (stateIn file span m) y p .1 .1
 
         one : (i : ℕ) → i < 8
-            → Path v o file spans stop (y .slots) (suc n) (at + i * step) (stateIn file span (placeOf i)) (tallyOf i) (at + suc i * step) (stateIn file span (placeOf (suc i))) (tallyOf (suc i))
+            → Path v o file spans stop (y .slots) (suc n) (at + i * step) (stateIn file span (stageOf i)) (tallyOf i) (at + suc i * step) (stateIn file span (stageOf (suc i))) (tallyOf (suc i))
         unfolding runTally
         one i l =
-            subst (λ (j : ℕ). Path v o file spans stop (y .slots) (suc n) j (stateIn file span (placeOf i)) (tallyOf i) (at + suc i * step) (stateIn file span (onId m (idAt file j))) (begunAt (tallyOf i) (idOf i) (idAt file j)))
+            subst (λ (j : ℕ). Path v o file spans stop (y .slots) (suc n) j (stateIn file span (stageOf i)) (tallyOf i) (at + suc i * step) (stateIn file span (onId m (idAt file j))) (begunAt (tallyOf i) (idOf i) (idAt file j)))
             (back i)
             (frame-like v o file spans stop (y .slots) last (suc i * step) n s₀ y₀ at (stateIn file span m) y p (e .start) (e .starts .each i l) (e .rest .each n hops i l)
-            (in-stop (suc i) (omega arith)) (stateIn file span (placeOf i)) (closed-on (idOf i)) (tallyOf i) (same-slots i))
+            (in-stop (suc i) (omega arith)) (stateIn file span (stageOf i)) (closed-on (idOf i)) (tallyOf i) (same-slots i))
 
-        all : (i : ℕ) → i ≤ 8 → Turning v o file spans stop span first (placeOf i) (at + i * step) (tallyOf i)
+        all : (i : ℕ) → i ≤ 8 → Turning v o file spans stop span first (stageOf i) (at + i * step) (tallyOf i)
         unfolding runTally
         all zero h = subst (λ (j : ℕ). Turning v o file spans stop span first m j y) (let z = zero-mul step in let q : at ≡ at + 0 * step = omega arith in q) (t .turning)
         all (suc i) h =
             let before = all i (omega arith) in
-            turn-path (placeOf i) (at + i * step) (tallyOf i) before (y .slots) (suc n) (at + suc i * step) (stateIn file span (placeOf (suc i))) (tallyOf (suc i)) (one i (omega arith))
-            (placeOf (suc i)) (asked-on (idOf (suc i)) (at + suc i * step) (omega arith) (in-stop (suc i) h)) refl
+            turn-path (stageOf i) (at + i * step) (tallyOf i) before (y .slots) (suc n) (at + suc i * step) (stateIn file span (stageOf (suc i))) (tallyOf (suc i)) (one i (omega arith))
+            (stageOf (suc i)) (asked-on (idOf (suc i)) (at + suc i * step) (omega arith) (in-stop (suc i) h)) refl
             (under-begun (tallyOf i) (idOf i) (idOf (suc i)) (at + i * step) (at + suc i * step) (before .under) (omega (arith, on i, e .later)))
 
-        eight : Turned v o file spans stop span first (placeOf 8) (at + 8 * step) (tallyOf 8) (last + 8 * step)
+        eight : Turned v o file spans stop span first (stageOf 8) (at + 8 * step) (tallyOf 8) (last + 8 * step)
         eight = record {
           turning = all 8 (omega arith);
           behind = omega (arith, e .later);
           events = suc n;
-          state₀ = stateIn file span (placeOf 7);
+          state₀ = stateIn file span (stageOf 7);
           tally₀ = tallyOf 7;
           path =
-              subst (λ (j : ℕ). Path v o file spans stop (tallyOf 8 .slots) (suc n) j (stateIn file span (placeOf 7)) (tallyOf 7) (at + 8 * step) (stateIn file span (placeOf 8)) (tallyOf 8))
+              subst (λ (j : ℕ). Path v o file spans stop (tallyOf 8 .slots) (suc n) j (stateIn file span (stageOf 7)) (tallyOf 7) (at + 8 * step) (stateIn file span (stageOf 8)) (tallyOf 8))
               (sym (back 7))
-              (subst (λ (j : ℕ). Path v o file spans stop j (suc n) (at + 7 * step) (stateIn file span (placeOf 7)) (tallyOf 7) (at + 8 * step) (stateIn file span (placeOf 8)) (tallyOf 8))
+              (subst (λ (j : ℕ). Path v o file spans stop j (suc n) (at + 7 * step) (stateIn file span (stageOf 7)) (tallyOf 7) (at + 8 * step) (stateIn file span (stageOf 8)) (tallyOf 8))
               (sym (same-slots 8)) (one 7 (omega arith)));
         }
 
       by-events : (n : ℕ) (s₀ : State) (y₀ : Tally) → Path v o file spans stop (y .slots) n last s₀ y₀ at (stateIn file span m) y
-          → Turned v o file spans stop span first (placeOf 8) (at + 8 * step) (tallyOf 8) (last + 8 * step)
+          → Turned v o file spans stop span first (stageOf 8) (at + 8 * step) (tallyOf 8) (last + 8 * step)
       unfolding Path
       by-events zero s₀ y₀ p = absurd (omega (arith, p .0, e .later))
       by-events (suc n) s₀ y₀ p = eight n s₀ y₀ p
 
-      pub turned-leaps : (place : Place) → place ≡ placeOf 8 → (u : Tally) → u ≡ tallyOf 8 → (by : ℕ) → by ≡ 8 * step → Turned v o file spans stop span first place (at + by) u (last + by)
-      turned-leaps place a u b by q =
-          subst (λ (j : ℕ). Turned v o file spans stop span first place (at + j) u (last + j)) (sym q)
-          (subst (λ (x : Place). Turned v o file spans stop span first x (at + 8 * step) u (last + 8 * step)) (sym a)
-          (subst (λ (x : Tally). Turned v o file spans stop span first (placeOf 8) (at + 8 * step) x (last + 8 * step)) (sym b) (by-events (t .events) (t .state₀) (t .tally₀) (t .path))))
+      pub turned-leaps : (stage : Stage) → stage ≡ stageOf 8 → (u : Tally) → u ≡ tallyOf 8 → (by : ℕ) → by ≡ 8 * step → Turned v o file spans stop span first stage (at + by) u (last + by)
+      turned-leaps stage a u b by q =
+          subst (λ (j : ℕ). Turned v o file spans stop span first stage (at + j) u (last + j)) (sym q)
+          (subst (λ (x : Stage). Turned v o file spans stop span first x (at + 8 * step) u (last + 8 * step)) (sym a)
+          (subst (λ (x : Tally). Turned v o file spans stop span first (stageOf 8) (at + 8 * step) x (last + 8 * step)) (sym b) (by-events (t .events) (t .state₀) (t .tally₀) (t .path))))

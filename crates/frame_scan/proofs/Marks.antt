@@ -11,10 +11,10 @@ use borrow.Author.Tests.{eq-eqb, ne-eqb, eqb-true}
 use lib.Bits.{bitOr, or-shr, or-mod, or-step, or-zero-r, or-block}
 use lib.Dec.{eqb}
 use lib.Pow.{pow-lt, pow-pos, pow-add, shl-shr, high}
+use Rattle.game.specs.Frames.{isMarked}
 use Rattle.grammar.specs.Productions.{Player}
 use Rattle.grammar.specs.WellFormed.{slotOf}
 use Rattle.columns.specs.Columns.{holds}
-use Rattle.frame_scan.specs.Counts.{isMarked}
 
 below : (j k : ℕ) → j < k → 2 ^ j / 2 ^ k ≡ 0
 below j k h = ap (λ (n : ℕ). n / 2 ^ k) (sym (ap (λ (n : ℕ). n + 2 ^ j) (zero-mul (2 ^ k)) ∙ zero-add (2 ^ j))) ∙ high 0 k (pow-lt h)

@@ -4,7 +4,7 @@ use mathlib.Core.Path.{_≡_, refl, sym, ap, subst, _∙_}
 use mathlib.Core.Bool.{Bool, true, false, cond, not, _&&_, _||_}
 use mathlib.Core.List.{List, [], _∷_}
 use mathlib.Core.Option.{Option, none, some}
-use Prim.Native.Nat.{ℕ, zero, suc, _+_, _-_, _*_, _≤_, _<_}
+use Prim.Native.Nat.{ℕ, zero, suc, _+_, _*_, _≤_, _<_}
 use native.Mathlib.Nat.{zero-add}
 use native.Mathlib.Omega.{arith}
 use borrow.Author.Tests.{le-leb, lt-leb, leb-true, eqb-true, eq-eqb}
@@ -15,10 +15,11 @@ use Rattle.layout.specs.Columns.{hasFamily}
 use Rattle.layout.specs.Payloads.{recordSize}
 use Rattle.layout.specs.declared.columns.Family.{Family}
 use Rattle.layout.specs.declared.columns.Family.the-variants.{Pre, Post, FrameStart, Item, FrameEnd, FodPlatform, DreamlandWhispy, StadiumTransformation}
+use Rattle.game.specs.Frames.{isMarked}
 use Rattle.grammar.specs.WellFormed.{Order, nobody, mayCome}
 use Rattle.grammar.specs.Machine.{familyOf, onFamily, State, state, slotSaid, rankOf, isNext, closed, inFrame, player, orderly, dueAfter, after}
 use Rattle.grammar.proofs.Tests.{both}
-use Rattle.frame_scan.specs.Counts.{tally, isMarked, begunAt, sat, ofFrame, countedOf}
+use Rattle.frame_scan.specs.Counts.{tally, begunAt, sat, ofFrame, countedOf}
 use Rattle.frame_scan.specs.Inner.{saidAt, spanAt, takesAt, takes, scan, tallied}
 use Rattle.frame_scan.specs.Alike.{idAt, Hops, Seat, Who, Like, Alike}
 use Rattle.frame_scan.specs.declared.tally.Tally.{Tally}

@@ -48,7 +48,9 @@ module _ (v : Version) (o : Order) (file spans : List ℕ) (stop : ℕ) (tail : 
       let d′ : drop (at + spanAt spans file at) file ≡ eventsBytes es ++ tail = sym (drop-drop (spanAt spans file at) at file) ∙ ap (drop (spanAt spans file at)) here ∙ drop-at
       (eventBytes e) (eventsBytes es ++ tail) (spanAt spans file at) (sym sp) in
       rw (lt-leb stop at (omega arith))
-      (ap (λ (f : Option Family). onFamily f (λ family. cond (takes v o file spans stop s at family) (tallied v o file spans stop n (at + spanAt spans file at) (after s family (saidAt file at)) (countedOf t (s .rank) (s .id) family (saidAt file at))) none) (cond (closed v s) (some t) none)) (ap familyOf (code-at file at e (eventsBytes es ++ tail) here))
+      (ap (λ (f : Option Family). onFamily f
+      (λ family. cond (takes v o file spans stop s at family) (tallied v o file spans stop n (at + spanAt spans file at) (after s family (saidAt file at)) (countedOf t (s .rank) (s .id) family (saidAt file at))) none)
+      (cond (closed v s) (some t) none)) (ap familyOf (code-at file at e (eventsBytes es ++ tail) here))
       ∙ go (familyOf (e .code)) here (λ s t. told-as es n (at + spanAt spans file at) s t (omega arith) (omega arith) d′ (h .1)) w)
     where
       go : (f : Option Family) → drop at file ≡ eventBytes e ++ (eventsBytes es ++ tail)

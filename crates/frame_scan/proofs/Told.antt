@@ -19,6 +19,7 @@ use Rattle.format.specs.declared.version.Version.{Version}
 use Rattle.layout.specs.Columns.{hasFamily}
 use Rattle.layout.specs.declared.columns.Family.{Family}
 use Rattle.layout.specs.declared.columns.Family.the-variants.{Pre, Post, FrameStart, Item, FrameEnd, FodPlatform, DreamlandWhispy, StadiumTransformation}
+use Rattle.game.specs.Frames.{isMarked}
 use Rattle.grammar.specs.Productions.{Player, Frame, rowEvent, preEvent, postEvent, frameEvents, framesEvents}
 use Rattle.grammar.specs.WellFormed.{Each, Order, slotOf, GoodFrame}
 use Rattle.grammar.specs.Readable.{Changing}
@@ -27,7 +28,7 @@ use Rattle.grammar.proofs.Tests.{both}
 use Rattle.grammar.proofs.Takes.{family-is, NoFrame, closed-last, complete}
 use Rattle.grammar.proofs.Unique.{afterPosts, afterPres, afterStart, whole, frame-then}
 use Rattle.columns.specs.Columns.{holds, everIn, rowsThere}
-use Rattle.frame_scan.specs.Counts.{tally, noTally, isMarked, begunAt, sat, ofFrame, countedOf, tallyOf}
+use Rattle.frame_scan.specs.Counts.{tally, noTally, begunAt, sat, ofFrame, countedOf, tallyOf}
 use Rattle.frame_scan.specs.Inner.{tallied}
 use Rattle.frame_scan.specs.declared.tally.Tally.{Tally}
 use Rattle.frame_scan.proofs.Marks.{none-marked, marks, marks-hold}

@@ -19,8 +19,8 @@ use Rattle.grammar.specs.WellFormed.{Order, mayCome}
 use Rattle.grammar.specs.Machine.{familyOf, onFamily, initial, Said, State, slotSaid, isNext, closed, inFrame, player, orderly, after}
 use Rattle.grammar.proofs.Tests.{both}
 use Rattle.frame_order.specs.Inner.{slotAt, dueIn, saidOf, stateIn, closedAt, Held, Ready, After}
-use Rattle.frame_order.specs.declared.place.Place.{Place}
-use Rattle.frame_order.specs.declared.place.Word.{Word}
+use Rattle.frame_order.specs.declared.stage.Stage.{Stage}
+use Rattle.frame_order.specs.declared.stage.Word.{Word}
 use Rattle.frame_order.proofs.Steps.{closed-is}
 use Rattle.frame_order.proofs.Laws.{room-go}
 use Rattle.frame_scan.specs.Counts.{noTally, countedOf, Under}
@@ -36,7 +36,7 @@ fewer : (n span : ℕ) → 7 ≤ span → 7 * n ≤ n * span
 fewer zero span h = omega (arith, zero-mul span)
 fewer (suc n) span h = let f = fewer n span h in let s = suc-mul n span in omega arith
 
-module _ (v : Version) (o : Order) (file : List ℕ) (span : ℕ) (m : Place) (w : Word) (at next : ℕ)
+module _ (v : Version) (o : Order) (file : List ℕ) (span : ℕ) (m : Stage) (w : Word) (at next : ℕ)
     (held : Held span m at) (span-is : span ≡ 1 + recordSize Pre v) (low : next < 2 ^ 64) (said : saidOf w ≡ saidAt file at) where
   closed-nobody : closed v (stateIn file span m) ≡ true → m .due ≡ 0
   unfolding closedAt
@@ -96,7 +96,7 @@ player-of v o s w q =
     let more = both (inFrame s 2 w || (not (hasFamily v FrameStart) && closed v s)) (player w && mayCome o (s .due) (slotSaid w)) q .1 in
     both (player w) (mayCome o (s .due) (slotSaid w)) more .0
 
-module _ (v : Version) (o : Order) (file : List ℕ) (span stop : ℕ) (m : Place) (at n : ℕ) (family : Family) (f : Bool)
+module _ (v : Version) (o : Order) (file : List ℕ) (span stop : ℕ) (m : Stage) (at n : ℕ) (family : Family) (f : Bool)
     (f-is : f ≡ (hasFamily v family && eqb n (1 + recordSize family v))) where
   pub not-fits : f ≡ false → takesAt v o file stop (stateIn file span m) at n family ≡ false
   unfolding takesAt
@@ -115,9 +115,9 @@ module _ (v : Version) (o : Order) (file : List ℕ) (span stop : ℕ) (m : Plac
     pub not-orderly : b ≡ false → takesAt v o file stop (stateIn file span m) at n family ≡ false
     not-orderly q = taken-as ∙ q
 
-    pub gone : b ≡ true → (next : ℕ) → next ≡ at + n → Asked v file span stop m at → (place : Place) → After file span m w next family place
-        → Gone v o file span stop m at n family place next w
-    gone q next x a place h =
+    pub gone : b ≡ true → (next : ℕ) → next ≡ at + n → Asked v file span stop m at → (stage : Stage) → After file span m w next family stage
+        → Gone v o file span stop m at n family stage next w
+    gone q next x a stage h =
         let s = size-of v n family f f-is e in
         record {
           taken = taken-as ∙ q;
@@ -131,7 +131,7 @@ module _ (v : Version) (o : Order) (file : List ℕ) (span stop : ℕ) (m : Plac
 
 -- ---- the frames end, or not
 
-module _ (v : Version) (m : Place) (at : ℕ) (y : Tally) (b : Bool) (b-is : b ≡ closedAt v m) where
+module _ (v : Version) (m : Stage) (at : ℕ) (y : Tally) (b : Bool) (b-is : b ≡ closedAt v m) where
   pub ends-here : b ≡ true → (some at ≡ endsAt v m at) × (some y ≡ tellsAt v m y)
   ends-here t = (rw (sym b-is ∙ t), rw (sym b-is ∙ t))
 
@@ -141,7 +141,7 @@ module _ (v : Version) (m : Place) (at : ℕ) (y : Tally) (b : Bool) (b-is : b �
 -- ---- the loop
 
 -- the answers of a place and a tally are those from the first place on, with enough turns left
-pub record Turning (v : Version) (o : Order) (file spans : List ℕ) (stop span first : ℕ) (m : Place) (at : ℕ) (y : Tally) : Type 0 where
+pub record Turning (v : Version) (o : Order) (file spans : List ℕ) (stop span first : ℕ) (m : Stage) (at : ℕ) (y : Tally) : Type 0 where
   pub asked : Asked v file span stop m at
   pub left : ℕ
   pub enough : stop < at + left
@@ -174,10 +174,10 @@ module _ (v : Version) (o : Order) (file spans : List ℕ) (stop span first : �
       }
 
   -- the answers after the last turn
-  abbrev Answers : Place → ℕ → Tally → Type 0
+  abbrev Answers : Stage → ℕ → Tally → Type 0
   Answers m at y = (endsAt v m at ≡ scan v o file spans stop (suc stop) first initial) × (tellsAt v m y ≡ tallied v o file spans stop (suc stop) first initial noTally)
 
-  module _ (m : Place) (at : ℕ) (y : Tally) (t : Turning v o file spans stop span first m at y) where
+  module _ (m : Stage) (at : ℕ) (y : Tally) (t : Turning v o file spans stop span first m at y) where
     closed-now : closed v (stateIn file span m) ≡ closedAt v m
     closed-now = closed-is v o file span m (record { id = 0; port = 0; follower = 0 })
 
@@ -250,9 +250,9 @@ module _ (v : Version) (o : Order) (file spans : List ℕ) (stop span first : �
               sym (t .counts ∙ ap (λ (n : ℕ). tallied v o file spans stop n at now-at y) e ∙ one-count (t .left - 1) ∙ rw q),
             )
 
-        pub turn-goes : (place : Place) (next : ℕ) (w : Word) → Gone v o file span stop m at n family place next w → (z : Tally) → z ≡ countedOf y (m .rank) (m .id) family (saidOf w)
-            → Turning v o file spans stop span first place next z
-        turn-goes place next w g z z-is =
+        pub turn-goes : (stage : Stage) (next : ℕ) (w : Word) → Gone v o file span stop m at n family stage next w → (z : Tally) → z ≡ countedOf y (m .rank) (m .id) family (saidOf w)
+            → Turning v o file spans stop span first stage next z
+        turn-goes stage next w g z z-is =
             let e = is-left (t .asked .under) in
             let taken = g .taken in
             let z′ = z-is ∙ ap (countedOf y (m .rank) (m .id) family) (g .said) in
@@ -265,6 +265,6 @@ module _ (v : Version) (o : Order) (file spans : List ℕ) (stop span first : �
               under = subst (λ (x : Tally). Under x next) (sym z-is) (under-counted y (m .rank) (m .id) (saidOf w) family at next (t .under) (g .later));
             }
 
-pub tried-as : (v : Version) (o : Order) (file : List ℕ) (span stop : ℕ) (m : Place) (at n : ℕ) (family : Family) (r q : Turn) → r ≡ q → Tried v o file span stop m at n family r
+pub tried-as : (v : Version) (o : Order) (file : List ℕ) (span stop : ℕ) (m : Stage) (at n : ℕ) (family : Family) (r q : Turn) → r ≡ q → Tried v o file span stop m at n family r
     → Tried v o file span stop m at n family q
 tried-as v o file span stop m at n family r q e h = subst (λ (t : Turn). Tried v o file span stop m at n family t) e h

@@ -6,10 +6,12 @@ use mathlib.Core.List.{List}
 use mathlib.Core.Option.{Option, none, some}
 use lib.ListN.{getD}
 use Rattle.wire.specs.Wire.{number, part}
+use Rattle.format.specs.Event.{codeOf}
+use Rattle.format.specs.declared.event.Event.the-variants as event
 use Rattle.layout.specs.declared.columns.Family.{Family}
 use Rattle.layout.specs.declared.columns.Family.the-variants.{Pre, Post, FrameStart, Item, FrameEnd, FodPlatform, DreamlandWhispy, StadiumTransformation}
 use Rattle.grammar.specs.Machine.{familyOf}
-use Rattle.frame_order.specs.declared.place.Place.{Place}
+use Rattle.frame_order.specs.declared.stage.Stage.{Stage}
 use Rattle.frame_scan.specs.Counts.{begunAt}
 use Rattle.frame_scan.specs.Inner.{spanAt}
 use Rattle.frame_scan.specs.declared.tally.Tally.{Tally}
@@ -89,7 +91,7 @@ pub record Rest (file spans : List ℕ) (last e at step : ℕ) : Type 0 where
 
 -- the frame from last up to a place comes eight times more, whole before stop
 pub record Eight (file spans : List ℕ) (last at stop : ℕ) : Type 0 where
-  pub start : getD file last 0 ≡ 0x3A
+  pub start : getD file last 0 ≡ codeOf event.FrameStart
   pub later : last < at
   pub fits : at + (8 * (at - last) + 7) ≤ stop
   pub starts : Starts file last (at - last) 8
@@ -119,5 +121,5 @@ runTally file at step old y zero = y
 runTally file at step old y (suc t) = begunAt (runTally file at step old y t) (runId file at step old t) (idAt file (at + t * step))
 
 -- the place with another id
-abbrev pub onId : Place → ℕ → Place
+abbrev pub onId : Stage → ℕ → Stage
 onId m id = record { rank = m .rank; id = id; pre = m .pre; due = m .due }

@@ -1,6 +1,6 @@
 -- What a pass counts besides the place: frames where they begin, rows, who was ever there, and whether neighbouring ids differ.
 -- Assumes nothing.
-use Prim.Native.Nat.{ℕ, _+_, _-_, _/_, _%_, _^_, _≤_}
+use Prim.Native.Nat.{ℕ, _+_, _-_, _^_, _≤_}
 use mathlib.Core.Bool.{Bool, true, not, cond, _&&_, _||_}
 use mathlib.Core.List.{List, [], _∷_}
 use lib.Bits.{bitOr}
@@ -24,10 +24,6 @@ tally frames items fods whispys stadiums slots changing = record {
 
 abbrev pub noTally : Tally
 noTally = tally 0 0 0 0 0 0 true
-
--- slot k ever had a Pre: bit k is set
-unfoldable pub isMarked : ℕ → ℕ → Bool
-isMarked slots k = eqb (slots / 2 ^ k % 2) 1
 
 -- a frame of this id begins, after one of an old id; the first has none before it
 abbrev pub begunAt : Tally → ℕ → ℕ → Tally

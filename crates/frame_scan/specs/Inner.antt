@@ -16,8 +16,8 @@ use Rattle.layout.specs.declared.columns.Family.the-variants.{Pre, Post, FrameS
 use Rattle.grammar.specs.WellFormed.{Order}
 use Rattle.grammar.specs.Machine.{familyOf, Said, State, player, closed, orderly, after, onFamily}
 use Rattle.frame_order.specs.Inner.{saidOf, stateIn, closedAt, Held}
-use Rattle.frame_order.specs.declared.place.Place.{Place}
-use Rattle.frame_order.specs.declared.place.Word.{Word}
+use Rattle.frame_order.specs.declared.stage.Stage.{Stage}
+use Rattle.frame_order.specs.declared.stage.Word.{Word}
 use Rattle.frame_scan.specs.Counts.{countedOf}
 use Rattle.frame_scan.specs.declared.event.Kind.{Kind}
 use Rattle.frame_scan.specs.declared.event.Kind.the-variants.{Frame, Other}
@@ -72,8 +72,8 @@ module _ (v : Version) (o : Order) (file spans : List ℕ) (stop : ℕ) where
 -- ---- one turn of the loop
 
 -- no frame began yet: the code's numbers for the machine's first state
-abbrev pub noPlace : Place
-noPlace = record { rank = 8; id = 0; pre = 0; due = 0 }
+abbrev pub noStage : Stage
+noStage = record { rank = 8; id = 0; pre = 0; due = 0 }
 
 abbrev pub kindOf : Option Family → Kind
 kindOf none = Other
@@ -98,25 +98,25 @@ indexOf DreamlandWhispy = 6
 indexOf StadiumTransformation = 7
 
 -- what the loop knows at a place
-pub record Asked (v : Version) (file : List ℕ) (span stop : ℕ) (m : Place) (at : ℕ) : Type 0 where
+pub record Asked (v : Version) (file : List ℕ) (span stop : ℕ) (m : Stage) (at : ℕ) : Type 0 where
   pub held : Held span m at
   pub under : at ≤ stop
   pub long : stop ≤ length file
   pub span-is : span ≡ 1 + recordSize Pre v
 
 -- an event of n bytes was tried
-pub record Gone (v : Version) (o : Order) (file : List ℕ) (span stop : ℕ) (m : Place) (at n : ℕ) (family : Family) (place : Place) (next : ℕ) (word : Word) : Type 0 where
+pub record Gone (v : Version) (o : Order) (file : List ℕ) (span stop : ℕ) (m : Stage) (at n : ℕ) (family : Family) (stage : Stage) (next : ℕ) (word : Word) : Type 0 where
   pub taken : takesAt v o file stop (stateIn file span m) at n family ≡ true
-  pub state-is : stateIn file span place ≡ after (stateIn file span m) family (saidAt file at)
+  pub state-is : stateIn file span stage ≡ after (stateIn file span m) family (saidAt file at)
   pub next-is : next ≡ at + n
-  pub asked : Asked v file span stop place next
+  pub asked : Asked v file span stop stage next
   pub later : at < next
   pub said : saidOf word ≡ saidAt file at
   pub seated : family ≡ Pre → player (saidOf word) ≡ true
 
 -- what a try answers
-abbrev pub Tried : Version → Order → List ℕ → ℕ → ℕ → Place → ℕ → ℕ → Family → Turn → Type 0
-Tried v o file span stop m at n family (Goes place next word) = Gone v o file span stop m at n family place next word
+abbrev pub Tried : Version → Order → List ℕ → ℕ → ℕ → Stage → ℕ → ℕ → Family → Turn → Type 0
+Tried v o file span stop m at n family (Goes stage next word) = Gone v o file span stop m at n family stage next word
 Tried v o file span stop m at n family Refused = takesAt v o file stop (stateIn file span m) at n family ≡ false
 
 -- the answer: where the frames end, or nowhere
@@ -130,8 +130,8 @@ tallyIn (Ended at t) = some t
 tallyIn Wrong = none
 
 -- where the frames end that stand so at a place
-abbrev pub endsAt : Version → Place → ℕ → Option ℕ
+abbrev pub endsAt : Version → Stage → ℕ → Option ℕ
 endsAt v m at = cond (closedAt v m) (some at) none
 
-abbrev pub tellsAt : Version → Place → Tally → Option Tally
+abbrev pub tellsAt : Version → Stage → Tally → Option Tally
 tellsAt v m t = cond (closedAt v m) (some t) none

@@ -6,9 +6,13 @@ ghost use lib.ListN.{length};
 ghost use Rattle.frame_order.specs.Inner.{closedAt};
 ghost use Rattle.frame_scan.specs.Alike.{Four, Two, Starts, Heads, Seats, Likes, Rest, Eight};
 use crate::event::span_of;
+use format::event::FRAME_END;
+use format::event::FRAME_POST;
+use format::event::FRAME_PRE;
+use format::event::FRAME_START;
 use format::version::Version;
-use frame_order::place::Place;
-use frame_order::place::is_closed;
+use frame_order::stage::Stage;
+use frame_order::stage::is_closed;
 
 // Four bytes as a number, and two. The lowest is first, so that each is one load: they are only compared.
 fn four(s: &[u8], at: usize) -> u32
@@ -94,13 +98,13 @@ fn event_alike(file: &[u8], last: usize, e: usize, step: usize) -> bool
 {
     if heads_alike(file, last, e, step) {
         let code = file[e];
-        if code == 0x3C {
+        if code == FRAME_END {
             return true;
         }
-        if code == 0x37 {
+        if code == FRAME_PRE {
             return seats_alike(file, e, step);
         }
-        if code == 0x38 {
+        if code == FRAME_POST {
             return seats_alike(file, e, step);
         }
     }
@@ -151,7 +155,7 @@ fn eight_alike(file: &[u8], spans: &[u32], last: usize, at: usize, stop: usize) 
     let step = at - last;
     if eight_fit(step, stop - at) {
         let code = file[last];
-        if code == 0x3A {
+        if code == FRAME_START {
             let n = span_of(spans, code);
             if n <= step {
                 if starts_alike(file, last, step) {
@@ -168,7 +172,7 @@ pub fn goes_on(
     file: &[u8],
     spans: &[u32],
     v: Version,
-    m: Place,
+    m: Stage,
     code: u8,
     last: usize,
     at: usize,
@@ -177,7 +181,7 @@ pub fn goes_on(
     requires { ⌜ (last ≤ at) × (at ≤ stop) × (stop ≤ length (now file)) × (length (now spans) ≡ 256) ⌝ }
     ensures { λ r. ⌜ (r ≡ true → (closedAt v m ≡ true) × Eight (now (file .entry)) (now (spans .entry)) last at stop) ⌝ }
 {
-    if code == 0x3A {
+    if code == FRAME_START {
         if is_closed(v, m) {
             return eight_alike(file, spans, last, at, stop);
         }

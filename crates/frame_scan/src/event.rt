@@ -6,10 +6,19 @@ ghost use Rattle.grammar.specs.Machine.{familyOf};
 ghost use Rattle.frame_order.specs.Inner.{orderOf, saidOf};
 ghost use Rattle.frame_scan.specs.Inner.{saidAt, whoAt, kindOf, sizesIn, Asked, Tried};
 use crate::sizes::fits;
+use format::event::DREAMLAND_WHISPY;
+use format::event::FOD_PLATFORM;
+use format::event::FRAME_END;
+use format::event::FRAME_POST;
+use format::event::FRAME_PRE;
+use format::event::FRAME_START;
+use format::event::ITEM;
+use format::event::STADIUM_TRANSFORMATION;
 use format::version::Version;
+use frame_order::due::PortOrder;
 use frame_order::order::may;
-use frame_order::place::Place;
-use frame_order::place::Word;
+use frame_order::stage::Stage;
+use frame_order::stage::Word;
 use frame_order::step::moved;
 use layout::columns::Family;
 
@@ -22,28 +31,28 @@ pub enum Kind {
 pub fn kind_of(code: u8) -> Kind
     ensures { λ r. ⌜ r ≡ kindOf (familyOf code) ⌝ }
 {
-    if code == 0x37 {
+    if code == FRAME_PRE {
         return Kind::Frame(Family::Pre);
     }
-    if code == 0x38 {
+    if code == FRAME_POST {
         return Kind::Frame(Family::Post);
     }
-    if code == 0x3A {
+    if code == FRAME_START {
         return Kind::Frame(Family::FrameStart);
     }
-    if code == 0x3B {
+    if code == ITEM {
         return Kind::Frame(Family::Item);
     }
-    if code == 0x3C {
+    if code == FRAME_END {
         return Kind::Frame(Family::FrameEnd);
     }
-    if code == 0x3F {
+    if code == FOD_PLATFORM {
         return Kind::Frame(Family::FodPlatform);
     }
-    if code == 0x40 {
+    if code == DREAMLAND_WHISPY {
         return Kind::Frame(Family::DreamlandWhispy);
     }
-    if code == 0x41 {
+    if code == STADIUM_TRANSFORMATION {
         return Kind::Frame(Family::StadiumTransformation);
     }
     Kind::Other
@@ -92,7 +101,7 @@ fn word_at(file: &[u8], at: usize) -> Word
 // One turn: the event was taken, or it is wrong.
 pub enum Turn {
     Goes {
-        place: Place,
+        stage: Stage,
         next: usize,
         word: Word,
     },
@@ -104,25 +113,25 @@ pub fn try_event(
     file: &[u8],
     v: Version,
     sizes: &[usize],
-    any: bool,
+    order: PortOrder,
     span: usize,
     stop: usize,
-    m: Place,
+    m: Stage,
     at: usize,
     n: usize,
     family: Family,
 ) -> Turn
     requires { ⌜ Asked v (now file) span stop m at × (now sizes ≡ sizesIn v) × (n < 2 ^ 32) ⌝ }
-    ensures { λ r. ⌜ Tried v (orderOf any) (now (file .entry)) span stop m at n family r ⌝ }
+    ensures { λ r. ⌜ Tried v (orderOf order) (now (file .entry)) span stop m at n family r ⌝ }
 {
     if fits(v, sizes, family, n) {
         if n <= stop - at {
             let w = word_at(file, at);
-            if may(file, v, any, span, m, family, w) {
+            if may(file, v, order, span, m, family, w) {
                 let next = at + n;
-                let place = moved(file, span, m, family, w, at, next);
+                let stage = moved(file, span, m, family, w, at, next);
                 return Turn::Goes {
-                    place: place,
+                    stage: stage,
                     next: next,
                     word: w,
                 };

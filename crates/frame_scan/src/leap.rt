@@ -7,20 +7,20 @@ ghost use Rattle.frame_scan.specs.Counts.{Under};
 use crate::tally::Tally;
 use crate::tally::begun;
 use crate::tally::begun_next;
-use frame_order::place::Place;
+use frame_order::stage::Stage;
 use layout::columns::Family;
 
 // Where a frame stands after them, what was counted, and how many bytes they have.
 pub struct Leap {
-    pub place: Place,
+    pub stage: Stage,
     pub tally: Tally,
     pub by: usize,
 }
 
 // After eight frames from a place on, each as long as the one from `last` up to it.
-pub fn leapt(file: &[u8], m: Place, tally: Tally, last: usize, at: usize) -> Leap
+pub fn leapt(file: &[u8], m: Stage, tally: Tally, last: usize, at: usize) -> Leap
     requires { ⌜ (last < at) × (at + (8 * (at - last) + 7) ≤ length (now file)) × Under tally at ⌝ }
-    ensures { λ r. ⌜ (r .place ≡ onId m (runId (now (file .entry)) at (at - last) (m .id) 8))
+    ensures { λ r. ⌜ (r .stage ≡ onId m (runId (now (file .entry)) at (at - last) (m .id) 8))
         × (r .tally ≡ runTally (now (file .entry)) at (at - last) (m .id) tally 8)
         × (r .by ≡ 8 * (at - last)) ⌝ }
 {
@@ -37,7 +37,7 @@ pub fn leapt(file: &[u8], m: Place, tally: Tally, last: usize, at: usize) -> Lea
         p += step;
         t += 1;
     }
-    let place = Place {
+    let stage = Stage {
         rank: m.rank,
         id: old,
         pre: m.pre,
@@ -45,7 +45,7 @@ pub fn leapt(file: &[u8], m: Place, tally: Tally, last: usize, at: usize) -> Lea
     };
     let by = 8 * step;
     Leap {
-        place: place,
+        stage: stage,
         tally: y,
         by: by,
     }

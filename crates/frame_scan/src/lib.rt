@@ -5,7 +5,7 @@ ghost use lib.ListN.{length};
 ghost use Rattle.grammar.specs.Machine.{initial};
 ghost use Rattle.frame_order.specs.Inner.{orderOf};
 ghost use Rattle.frame_scan.specs.Counts.{noTally};
-ghost use Rattle.frame_scan.specs.Inner.{noPlace, scan, tallied, ranOf, tallyIn, endsAt, tellsAt};
+ghost use Rattle.frame_scan.specs.Inner.{noStage, scan, tallied, ranOf, tallyIn, endsAt, tellsAt};
 
 pub mod alike;
 pub mod event;
@@ -20,8 +20,9 @@ use event::kind_of;
 use event::span_of;
 use event::try_event;
 use format::version::Version;
-use frame_order::place::Place;
-use frame_order::place::is_closed;
+use frame_order::due::PortOrder;
+use frame_order::stage::Stage;
+use frame_order::stage::is_closed;
 use layout::columns::Family;
 use layout::payloads::record_size;
 use leap::begins;
@@ -38,10 +39,10 @@ pub enum Ran {
 }
 
 // No frame began yet.
-fn outset() -> Place
-    ensures { λ r. ⌜ r ≡ noPlace ⌝ }
+fn outset() -> Stage
+    ensures { λ r. ⌜ r ≡ noStage ⌝ }
 {
-    Place {
+    Stage {
         rank: 8,
         id: 0,
         pre: 0,
@@ -50,7 +51,7 @@ fn outset() -> Place
 }
 
 // The frames end at a place, where a frame may end there.
-fn ended(v: Version, m: Place, at: usize, t: Tally) -> Ran
+fn ended(v: Version, m: Stage, at: usize, t: Tally) -> Ran
     ensures { λ r. ⌜ (ranOf r ≡ endsAt v m at) × (tallyIn r ≡ tellsAt v m t) ⌝ }
 {
     if is_closed(v, m) {
@@ -60,11 +61,18 @@ fn ended(v: Version, m: Place, at: usize, t: Tally) -> Ran
 }
 
 // The frames from a place on, in one pass. Spans are by code: one more than the payloads' sizes, 0 where the table lacks the code.
-pub fn frames(file: &[u8], spans: &[u32], v: Version, any: bool, first: usize, stop: usize) -> Ran
+pub fn frames(
+    file: &[u8],
+    spans: &[u32],
+    v: Version,
+    order: PortOrder,
+    first: usize,
+    stop: usize,
+) -> Ran
     requires { ⌜ (first ≤ stop) × (stop ≤ length (now file)) × (length (now spans) ≡ 256) ⌝ }
     ensures { λ r.
-        ⌜ (ranOf r ≡ scan v (orderOf any) (now (file .entry)) (now (spans .entry)) stop (suc stop) first initial)
-        × (tallyIn r ≡ tallied v (orderOf any) (now (file .entry)) (now (spans .entry)) stop (suc stop) first initial noTally) ⌝ }
+        ⌜ (ranOf r ≡ scan v (orderOf order) (now (file .entry)) (now (spans .entry)) stop (suc stop) first initial)
+        × (tallyIn r ≡ tallied v (orderOf order) (now (file .entry)) (now (spans .entry)) stop (suc stop) first initial noTally) ⌝ }
 {
     let sizes = sizes_of(v);
     let span = 1 + record_size(Family::Pre, v);
@@ -77,7 +85,7 @@ pub fn frames(file: &[u8], spans: &[u32], v: Version, any: bool, first: usize, s
         if goes_on(file, spans, v, m, code, last, at, stop) {
             let far = leapt(file, m, tally, last, at);
             tally = far.tally;
-            m = far.place;
+            m = far.stage;
             last += far.by;
             at += far.by;
             continue;
@@ -87,19 +95,19 @@ pub fn frames(file: &[u8], spans: &[u32], v: Version, any: bool, first: usize, s
             return ended(v, m, at, tally);
         };
         let n = span_of(spans, code);
-        let t = try_event(file, v, &sizes[..], any, span, stop, m, at, n, family);
+        let t = try_event(file, v, &sizes[..], order, span, stop, m, at, n, family);
         match t {
             Turn::Refused => {
                 return Ran::Wrong;
             }
             Turn::Goes {
-                place: place,
+                stage: stage,
                 next: next,
                 word: word,
             } => {
                 tally = counted(tally, m, family, word);
                 last = begins(family, last, at);
-                m = place;
+                m = stage;
                 at = next;
             }
         }

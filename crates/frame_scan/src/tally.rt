@@ -5,11 +5,11 @@ ghost use Prim.Native.Nat.{_<_};
 ghost use Rattle.layout.specs.declared.columns.Family.the-variants.{Pre};
 ghost use Rattle.grammar.specs.Machine.{slotSaid, player};
 ghost use Rattle.frame_order.specs.Inner.{saidOf};
-ghost use Rattle.frame_scan.specs.Counts.{noTally, isMarked, begunAt, sat, fodMore, whispyMore, stadiumMore, itemMore, countedOf, Room};
-use frame_order::place::Place;
-use frame_order::place::Word;
-use frame_order::place::is_inside;
-use frame_order::place::slot;
+ghost use Rattle.frame_scan.specs.Counts.{noTally, begunAt, sat, fodMore, whispyMore, stadiumMore, itemMore, countedOf, Room};
+use frame_order::stage::Stage;
+use frame_order::stage::Word;
+use frame_order::stage::is_inside;
+use frame_order::stage::slot;
 use layout::columns::Family;
 
 // How many frames and rows there were, a bit for each of the eight slots that ever had a Pre, and whether neighbouring frames had unlike ids.
@@ -38,14 +38,6 @@ pub fn nothing() -> Tally
     }
 }
 
-// Whether slot k ever had a Pre.
-pub fn is_marked(slots: usize, k: usize) -> bool
-    requires { ⌜ k < 8 ⌝ }
-    ensures { λ r. ⌜ r ≡ isMarked slots k ⌝ }
-{
-    (slots >> k) % 2 == 1
-}
-
 // A frame of this id begins, after one of an old id.
 pub fn begun(t: Tally, old: u32, id: u32) -> Tally
     requires { ⌜ Room t ⌝ }
@@ -57,7 +49,7 @@ pub fn begun(t: Tally, old: u32, id: u32) -> Tally
     u
 }
 
-// The same after a frame that was counted.
+// A frame of this id begins, after one that was counted: then the first frame is behind.
 pub fn begun_next(t: Tally, old: u32, id: u32) -> Tally
     requires { ⌜ Room t × (0 < t .frames) ⌝ }
     ensures { λ r. ⌜ r ≡ begunAt t old id ⌝ }
@@ -79,7 +71,7 @@ fn with_player(t: Tally, w: Word) -> Tally
 }
 
 // A Pre came: it is of the frame, or begins one.
-fn with_pre(t: Tally, m: Place, w: Word) -> Tally
+fn with_pre(t: Tally, m: Stage, w: Word) -> Tally
     requires { ⌜ Room t × (player (saidOf w) ≡ true) ⌝ }
     ensures { λ r. ⌜ r ≡ countedOf t (m .rank) (m .id) Pre (saidOf w) ⌝ }
 {
@@ -99,7 +91,7 @@ fn with_fod(t: Tally) -> Tally
     u
 }
 
-// And one of the wind.
+// A row of Dreamland's wind came.
 fn with_whispy(t: Tally) -> Tally
     requires { ⌜ Room t ⌝ }
     ensures { λ r. ⌜ r ≡ whispyMore t ⌝ }
@@ -109,7 +101,7 @@ fn with_whispy(t: Tally) -> Tally
     u
 }
 
-// And one of the stadium.
+// A row of the stadium came.
 fn with_stadium(t: Tally) -> Tally
     requires { ⌜ Room t ⌝ }
     ensures { λ r. ⌜ r ≡ stadiumMore t ⌝ }
@@ -119,7 +111,7 @@ fn with_stadium(t: Tally) -> Tally
     u
 }
 
-// And one of an item.
+// An item's row came.
 fn with_item(t: Tally) -> Tally
     requires { ⌜ Room t ⌝ }
     ensures { λ r. ⌜ r ≡ itemMore t ⌝ }
@@ -130,7 +122,7 @@ fn with_item(t: Tally) -> Tally
 }
 
 // What is counted after an event that was taken where a frame stood.
-pub fn counted(t: Tally, m: Place, family: Family, w: Word) -> Tally
+pub fn counted(t: Tally, m: Stage, family: Family, w: Word) -> Tally
     requires { ⌜ Room t × (family ≡ Pre → player (saidOf w) ≡ true) ⌝ }
     ensures { λ r. ⌜ r ≡ countedOf t (m .rank) (m .id) family (saidOf w) ⌝ }
 {

@@ -4,18 +4,15 @@ use mathlib.Core.Path.{_≡_, refl}
 use mathlib.Core.List.{List, [], _∷_, map}
 use Prim.Native.Nat.{ℕ}
 use lib.ListN.{replicate}
-use Rattle.wire.specs.Wire.{keep, tabulate}
-use Rattle.format.specs.Version.{version, above, gteOf, acceptedOf}
-use Rattle.format.specs.Refusal.{lowest, oneOf}
+use Rattle.format.specs.Version.{version}
+use Rattle.format.specs.Refusal.{lowest}
 use Rattle.format.specs.declared.version.Version.{Version}
-use Rattle.layout.specs.Columns.{columnsOf, chosen, sum, hasFamily}
-use Rattle.game.specs.Frames.{portsOf, portSlots, portBytes, slotsFrom, slotsOf}
 use Rattle.game.specs.Stores.{Lent, cells, offsets, lent}
-use Rattle.frames.specs.Judge.{tooMany, misfits, storesMisfit, columnsExceed, blocksExceed, exceeds, cellsExceed, falls, strays, leftOver, misleads, offsetsMislead, portNumbers, twice, portsWrong, refusals}
-use Rattle.players.specs.Presence.{uneven, portUneven, portsUneven, presenceWrong}
+use Rattle.frames.specs.Judge.{refusals}
 use Rattle.game.specs.declared.frames.Counts.{Counts}
 use Rattle.game.specs.declared.frames.PortColumn.{PortColumn}
 use Rattle.game.specs.declared.frames.Frames.{Frames}
+use Rattle.frames.proofs.Opens.{opens-refusals}
 
 abbrev counts : ℕ → ℕ → Counts
 counts frames items = record { frames = frames; items = items; fods = 0; whispys = 0; stadiums = 0 }
@@ -115,5 +112,5 @@ table =
     ∷ []
 
 refused : map (λ (c : Case). lowest (refusals (c .frames) (c .lent) (c .codes) (c .metadata))) table ≡ map (λ (c : Case). c .number) table
-unfolding table lowest refusals acceptedOf above gteOf columnsOf chosen sum hasFamily keep tabulate portsOf portSlots portBytes slotsFrom slotsOf oneOf tooMany misfits storesMisfit columnsExceed blocksExceed exceeds cellsExceed falls strays leftOver misleads offsetsMislead uneven portUneven portsUneven presenceWrong portNumbers twice portsWrong
+unfolding opens-refusals table
 refused = refl

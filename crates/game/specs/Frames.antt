@@ -1,7 +1,6 @@
 -- The frame input: its port columns, its slots, and how many rows each family has.
 -- Assumes nothing.
-use Prim.Native.Nat.{ℕ, _+_, _≤_, min}
-use mathlib.Core.Path.{_≡_}
+use Prim.Native.Nat.{ℕ, _+_, _/_, _%_, _^_, min}
 use mathlib.Core.Bool.{Bool, not, cond}
 use mathlib.Core.List.{List, [], _∷_, _++_}
 use lib.Dec.{eqb}
@@ -51,6 +50,10 @@ slotsFrom at (p ∷ ps) = portSlots at p ++ slotsFrom (at + portBytes p) ps
 
 unfoldable pub slotsOf : Frames → List Slot
 slotsOf f = slotsFrom 0 (portsOf f)
+
+-- slot k is one of those that a number marks: bit k is set
+unfoldable pub isMarked : ℕ → ℕ → Bool
+isMarked slots k = eqb (slots / 2 ^ k % 2) 1
 
 -- no slot
 abbrev pub noSlot : Slot

@@ -1,6 +1,12 @@
 -- Values that say nothing: all numbers 0, all marks no.
 -- Assumes nothing.
 use lib.ListN.{replicate}
+use Rattle.format.specs.Version.{version}
+use Rattle.game.specs.Frames.{noPort}
+use Rattle.game.specs.declared.Game.{Game}
+use Rattle.game.specs.declared.end.End.{End}
+use Rattle.game.specs.declared.frames.Frames.{Frames}
+use Rattle.game.specs.declared.start.Start.{Start}
 use Rattle.game.specs.declared.start.Text.{Text}
 use Rattle.game.specs.declared.start.Seat.{Seat}
 
@@ -32,3 +38,45 @@ seatWith text = record {
 
 abbrev pub noSeat : Seat
 noSeat = seatWith noText
+
+abbrev pub noFrames : Frames
+noFrames = record {
+  version = version 0 0 0;
+  counts = record { frames = 0; items = 0; fods = 0; whispys = 0; stadiums = 0 };
+  ports = replicate 4 noPort;
+  «port_count» = 0;
+}
+
+abbrev pub noStart : Start
+noStart = record {
+  bitfield = replicate 4 0;
+  «is_raining_bombs» = 0;
+  «is_teams» = 0;
+  «item_spawn_frequency» = 0;
+  «self_destruct_score» = 0;
+  stage = 0;
+  timer = 0;
+  «item_spawn_bitfield» = replicate 5 0;
+  «damage_ratio» = 0;
+  seats = replicate 4 noSeat;
+  «random_seed» = 0;
+  «is_pal» = record { given = 0; value = 0 };
+  «is_frozen_ps» = record { given = 0; value = 0 };
+  scene = record { given = 0; minor = 0; major = 0 };
+  language = record { given = 0; value = 0 };
+  «match_info» = record { given = 0; tail = 0; id = noText; game = 0; tiebreaker = 0 };
+}
+
+abbrev pub noEnd : End
+noEnd = record { given = 0; method = 0; initiator = 0; placed = replicate 4 0; placements = replicate 4 0 }
+
+abbrev pub noGame : Game
+noGame = record {
+  frames = noFrames;
+  start = noStart;
+  end = noEnd;
+  «double_end» = 0;
+  «codes_given» = 0;
+  «metadata_given» = 0;
+  «actual_size» = 0;
+}

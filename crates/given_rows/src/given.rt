@@ -1,8 +1,7 @@
 // Rows of cells that are given: no judgement and no refusal, for every bit pattern, every number of cells and every version.
 ghost use mathlib.Core.Path.{_≡_};
 ghost use Prim.Native.Nat.{ℕ, _≤_, min};
-ghost use lib.ListN.{length, getD};
-ghost use Rattle.layout.specs.Columns.{widthsOf};
+ghost use lib.ListN.{getD};
 ghost use Rattle.rows.specs.Cells.{firstCells};
 ghost use Rattle.given_rows.specs.Given.{givenMark, preGiven, postGiven, itemGiven, frameStartGiven, frameEndGiven};
 ghost use Rattle.given_rows.specs.Given.{fodPlatformGiven, dreamlandWhispyGiven, stadiumTransformationGiven};

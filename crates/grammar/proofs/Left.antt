@@ -9,7 +9,7 @@ use native.Mathlib.Decide.{ℕ-discrete}
 use borrow.Author.Tests.{eq-eqb, ne-eqb}
 use lib.Dec.{eqb}
 use lib.ListN.{length, getD}
-use Rattle.wire.specs.Wire.{be, more, ranged}
+use Rattle.wire.specs.Wire.{more, ranged}
 use Rattle.wire.proofs.Laws.{ranged-same}
 use Rattle.format.specs.File.{Ev}
 use Rattle.format.specs.declared.version.Version.{Version}
@@ -19,9 +19,7 @@ use Rattle.layout.specs.declared.columns.Family.{Family}
 use Rattle.layout.specs.declared.columns.Family.the-variants.{Pre, Post, FrameStart, Item, FrameEnd, FodPlatform, DreamlandWhispy, StadiumTransformation}
 use Rattle.grammar.specs.Productions.{rowEvent}
 use Rattle.grammar.specs.WellFormed.{Each, Order, mayCome, InOrder}
-use Rattle.grammar.specs.Machine.{state}
 use Rattle.grammar.proofs.Each.{each-none, each-more}
-use Rattle.grammar.proofs.Unique.{empty}
 
 -- a frame's bodies, what stands behind the id, by rank
 abbrev pub Bodies : Type 0

@@ -8,7 +8,9 @@ use mathlib.Core.Option.{Option, none, some}
 use lib.Dec.{leb, eqb}
 use lib.ListN.{length, getD, take}
 use Rattle.wire.specs.Wire.{number}
+use Rattle.format.specs.Event.{codeOf}
 use Rattle.format.specs.File.{Ev}
+use Rattle.format.specs.declared.event.Event.the-variants as event
 use Rattle.format.specs.declared.version.Version.{Version}
 use Rattle.layout.specs.Columns.{hasFamily}
 use Rattle.layout.specs.Payloads.{recordSize}
@@ -19,14 +21,14 @@ use Rattle.grammar.specs.WellFormed.{Order, nobody, mayCome}
 -- the family of a code
 unfoldable pub familyOf : ℕ → Option Family
 familyOf c =
-    cond (eqb c 0x37) (some Pre)
-    (cond (eqb c 0x38) (some Post)
-    (cond (eqb c 0x3A) (some FrameStart)
-    (cond (eqb c 0x3B) (some Item)
-    (cond (eqb c 0x3C) (some FrameEnd)
-    (cond (eqb c 0x3F) (some FodPlatform)
-    (cond (eqb c 0x40) (some DreamlandWhispy)
-    (cond (eqb c 0x41) (some StadiumTransformation) none)))))))
+    cond (eqb c (codeOf event.FramePre)) (some Pre)
+    (cond (eqb c (codeOf event.FramePost)) (some Post)
+    (cond (eqb c (codeOf event.FrameStart)) (some FrameStart)
+    (cond (eqb c (codeOf event.Item)) (some Item)
+    (cond (eqb c (codeOf event.FrameEnd)) (some FrameEnd)
+    (cond (eqb c (codeOf event.FodPlatform)) (some FodPlatform)
+    (cond (eqb c (codeOf event.DreamlandWhispy)) (some DreamlandWhispy)
+    (cond (eqb c (codeOf event.StadiumTransformation)) (some StadiumTransformation) none)))))))
 
 -- its place in a frame
 abbrev pub rankOf : Family → ℕ

@@ -5,10 +5,11 @@ use mathlib.Core.Path.{_≡_}
 use mathlib.Core.Bool.{true, false}
 use mathlib.Core.List.{List, [], _∷_}
 use lib.ListN.{getD}
+use Rattle.format.specs.Version.{hasInitiator}
 use Rattle.format.specs.declared.version.Version.{Version}
 use Rattle.layout.specs.Columns.{hasFamily}
 use Rattle.layout.specs.declared.columns.Family.the-variants.{FrameStart}
-use Rattle.ending.specs.End.{hasInitiator, initiatorWrong}
+use Rattle.ending.specs.End.{initiatorWrong}
 use Rattle.grammar.specs.Productions.{Frame, Replay}
 use Rattle.grammar.specs.WellFormed.{Each, ascending, WellFormed}
 

@@ -6,7 +6,7 @@ use mathlib.Core.Bool.{Bool, true, false, not, _&&_, _||_}
 use mathlib.Core.List.{List, [], _∷_, _++_, map}
 use lib.Dec.{ltb, eqb}
 use lib.ListN.{length, take}
-use Rattle.format.specs.Version.{gteOf}
+use Rattle.format.specs.Version.{hasCodes}
 use Rattle.format.specs.declared.version.Version.{Version}
 use Rattle.layout.specs.Columns.{hasFamily, sizeOf}
 use Rattle.layout.specs.Payloads.{endSize}
@@ -78,7 +78,7 @@ pub record GoodFrame (v : Version) (o : Order) (f : Frame) : Type 0 where
 -- blocks of 512 bytes, all of them codes but in the last, which has some; from 3.3
 unfoldable pub GoodCodes : Version → List Block → Type 0
 GoodCodes v [] = Unit {0}
-GoodCodes v (b ∷ []) = (gteOf v 3 3 ≡ true) × (length (b .bytes) ≡ 512) × (0 < b .used) × (b .used ≤ 512)
+GoodCodes v (b ∷ []) = (hasCodes v ≡ true) × (length (b .bytes) ≡ 512) × (0 < b .used) × (b .used ≤ 512)
 GoodCodes v (b ∷ c ∷ bs) = (length (b .bytes) ≡ 512) × (b .used ≡ 512) × GoodCodes v (c ∷ bs)
 
 -- the block says the version, is no shorter than its length, and its size has two bytes; two ends at most, of the version's size

@@ -10,7 +10,7 @@ use lib.ListN.{length, getD}
 use Rattle.wire.specs.Wire.{number, part}
 use Rattle.format.specs.Event.{codeOf}
 use Rattle.format.specs.File.{Ev}
-use Rattle.format.specs.Version.{gteOf}
+use Rattle.format.specs.Version.{hasCodes}
 use Rattle.format.specs.declared.event.Event.the-variants.{GameStart, GameEnd, GeckoCodes, MessageSplitter}
 use Rattle.format.specs.declared.version.Version.{Version}
 use Rattle.layout.specs.Payloads.{endSize}
@@ -36,7 +36,7 @@ abbrev pub flagIn : Ev → ℕ
 flagIn e = getD (e .payload) 515 0
 
 unfoldable pub isLast : Version → Ev → Bool
-isLast v e = gteOf v 3 3 && (ltb 0 (usedBy e) && leb (usedBy e) 512)
+isLast v e = hasCodes v && (ltb 0 (usedBy e) && leb (usedBy e) 512)
 
 unfoldable pub isFull : Ev → Bool
 isFull e = eqb (flagIn e) 0 && eqb (usedBy e) 512

@@ -28,7 +28,7 @@ use Rattle.game.specs.declared.Game.{Game}
 use Rattle.ser.proofs.Outcomes.{Passed}
 use Rattle.patch.specs.Patch.{Patch, patch, patched}
 use Rattle.format.specs.Mark.{yes, no}
-use Rattle.format.specs.Version.{gteOf}
+use Rattle.format.specs.Version.{gteOf, hasInitiator}
 use Rattle.format.specs.declared.version.Version.{Version}
 use Rattle.format.proofs.Tests.{or-none}
 use Rattle.layout.specs.Columns.{hasFamily, sizeOf, widthsOf}
@@ -41,7 +41,7 @@ use Rattle.players.specs.Presence.{presentAt}
 use Rattle.frames.specs.Inner.{Ported}
 use Rattle.game.specs.declared.frames.Frames.{Frames}
 use Rattle.codes.specs.Blocks.{blockCount, used}
-use Rattle.ending.specs.End.{hasInitiator, endOf, initiatorWrong, endWrong}
+use Rattle.ending.specs.End.{endOf, initiatorWrong, endWrong}
 use Rattle.game.specs.declared.end.End.{End}
 use Rattle.ending.proofs.Lengths.{length-end}
 use Rattle.codes.proofs.Laws.{right-codes}

@@ -6,6 +6,7 @@ use mathlib.Core.List.{List, [], _∷_, _++_}
 use lib.Dec.{eqb}
 use lib.ListN.{length, getD}
 use Rattle.wire.specs.Wire.{part, ranged, keep}
+use Rattle.format.specs.Version.{hasInitiator, hasPlacements}
 use Rattle.format.specs.Mark.{yes}
 use Rattle.format.specs.declared.version.Version.{Version}
 use Rattle.layout.specs.Columns.{hasFamily, widthsOf}
@@ -18,7 +19,7 @@ use Rattle.players.specs.Presence.{presentAt}
 use Rattle.game.specs.declared.frames.Frames.{Frames}
 use Rattle.start.specs.Block.{startBlock}
 use Rattle.codes.specs.Blocks.{blockCount, used}
-use Rattle.ending.specs.End.{hasInitiator, hasPlacements, initiatorBytes, placementsOf}
+use Rattle.ending.specs.End.{initiatorBytes, placementsOf}
 use Rattle.game.specs.declared.end.End.{End}
 use Rattle.events.specs.Events.{idOf}
 use Rattle.game.specs.declared.Game.{Game}

@@ -1,6 +1,6 @@
 // The head of a replay: its signature, the declared length of its event data, and its payload table.
 ghost use mathlib.Core.Path.{_≡_};
-ghost use mathlib.Core.Bool.{Bool, true, false, not};
+ghost use mathlib.Core.Bool.{true, false, not};
 ghost use Prim.Native.Nat.{_+_, _*_, _≤_, _<_};
 ghost use lib.ListN.{length, drop};
 ghost use Rattle.wire.specs.Wire.{number, part};
@@ -8,6 +8,7 @@ ghost use Rattle.format.specs.Event.{signature};
 ghost use Rattle.head.specs.Table.{startsWith, stopOf, allPresent, entriesIn, tableOf, firstPlace, codeTwice, tableMissing, unsigned};
 ghost use Rattle.head.specs.Inner.{listOf, Sound, Blank, Indexed, Agree, HeadOf};
 use format::event::FILE_SIGNATURE;
+use format::event::PAYLOADS;
 use format::refusal::BAD_TABLE;
 use format::refusal::NOT_A_REPLAY;
 
@@ -91,8 +92,7 @@ fn table_missing(file: &[u8], stop: usize) -> bool
     if stop < 17 {
         return true;
     }
-    // The code of the table's own event.
-    if file[15] != 0x35 {
+    if file[15] != PAYLOADS {
         return true;
     }
     let size = wire::wide(file[16]);

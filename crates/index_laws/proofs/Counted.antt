@@ -1,9 +1,9 @@
 -- How many rows a cut has: as many as FrameStarts of the whole file end within it; so its index is that of the whole file's first rows.
 -- Assumes nothing.
-use Prim.Native.Nat.{ℕ, zero, suc, _+_, _≤_, _<_}
+use Prim.Native.Nat.{ℕ, zero, suc, _+_, _<_}
 use mathlib.Core.Path.{_≡_, refl, sym, ap, ap₂, _∙_}
 use mathlib.Core.Bool.{Bool, true, false, cond}
-use mathlib.Core.List.{List, [], _∷_, _++_}
+use mathlib.Core.List.{List, [], _∷_}
 use native.Mathlib.Decide.{decLt}
 use native.Mathlib.Omega.{arith}
 use borrow.Author.Tests.{le-leb, lt-leb}
@@ -11,7 +11,7 @@ use lib.Dec.{eqb, leb}
 use lib.ListN.{length, take, length-append}
 use lib.Seq.{take-at}
 use Rattle.wire.specs.Wire.{number, part, keep}
-use Rattle.head.specs.Table.{headRefusal, headOffset}
+use Rattle.head.specs.Table.{headRefusal}
 use Rattle.head.specs.Step.{stepOf}
 use Rattle.head.specs.declared.Step.{Step}
 use Rattle.head.specs.declared.Step.the-variants.{Event, Ends, Cut, Refused}
@@ -25,7 +25,7 @@ use Rattle.index_passes.specs.Rows.{rowOf, rowsOf, rowsIn, indexIn}
 use Rattle.index_calls.specs.Index.{shortStart, replayRefusal}
 use Rattle.index_calls.specs.Inner.{laterRefusal}
 use Rattle.index_calls.proofs.Laws.{later-none}
-use Rattle.index_laws.specs.Before.{nextOf, before, starts, startsWithin, Begins}
+use Rattle.index_laws.specs.Before.{before, starts, startsWithin, Begins}
 use Rattle.index_laws.proofs.Through.{else-none}
 use Rattle.index_laws.proofs.Cuts.{rows-of-cut, cut-begins}
 

@@ -1,25 +1,23 @@
 -- An index is accepted exactly when it is the replay's, and through an accepted index a lookup gives what a walk gives.
 -- Assumes nothing.
-use Prim.Native.Nat.{ℕ, zero, suc, _+_, _*_, _^_, _≤_, _<_}
-use mathlib.Core.Path.{_≡_, refl, sym, ap, subst, _∙_}
-use mathlib.Core.Bool.{Bool, true, false, not, cond, _||_, _&&_}
-use mathlib.Core.List.{List, [], _∷_, _++_}
-use native.Mathlib.Decide.{decLt, ℕ-discrete}
+use Prim.Native.Nat.{ℕ, zero, suc, _≤_, _<_}
+use mathlib.Core.Path.{_≡_, refl, sym, ap, _∙_}
+use mathlib.Core.Bool.{Bool, true, false, not, cond}
+use mathlib.Core.List.{List}
+use native.Mathlib.Decide.{ℕ-discrete}
 use native.Mathlib.Omega.{arith}
 use borrow.Author.Tests.{eq-eqb, ne-eqb, eqb-true}
 use lib.Dec.{eqb}
-use lib.ListN.{length, getD, take, drop}
+use lib.ListN.{length, getD, take}
 use lib.Seq.{take-all, take-length}
-use Rattle.format.specs.Refusal.{refuse, lowest}
+use Rattle.format.specs.Refusal.{lowest}
 use Rattle.record.proofs.Numbers.{Bytes}
-use Rattle.grammar.specs.WellFormed.{Each}
 use Rattle.head.specs.Table.{startsWith}
 use Rattle.de.specs.Walk.{runOf, walkOf}
 use Rattle.de.specs.Numbers.{walkNumbers}
-use Rattle.index_form.specs.Form.{indexBytes, badIndex, rowCount, idAt, offsetAt}
-use Rattle.index_form.specs.Find.{lastAmong, noMoment, momentAt, momentIn}
-use Rattle.index_form.specs.declared.Moment.{Moment}
-use Rattle.index_form.proofs.Laws.{both, starts-take, take-starts, last-here, last-before}
+use Rattle.index_form.specs.Form.{badIndex, idAt, offsetAt}
+use Rattle.index_form.specs.Find.{lastAmong, momentAt, momentIn}
+use Rattle.index_form.proofs.Laws.{both, starts-take, take-starts}
 use Rattle.index_passes.specs.Rows.{rowsIn, indexIn, far}
 use Rattle.index_calls.specs.Index.{orElse, replayRefusal, sameBytes, writeRefusal, acceptRefusal, WriteOutcome, AcceptOutcome}
 use Rattle.index_calls.specs.Inner.{laterRefusal}
@@ -27,7 +25,7 @@ use Rattle.index_calls.specs.declared.Written.{Written}
 use Rattle.index_calls.specs.declared.Accepted.{Accepted}
 use Rattle.index_calls.proofs.Laws.{later-none, large-none}
 use Rattle.index_laws.specs.Looked.{idsOf, offsetsOf, lookedAt, looked}
-use Rattle.index_laws.proofs.Held.{Small, rows-small, count-is, good, id-is, offset-is}
+use Rattle.index_laws.proofs.Held.{rows-small, count-is, good, id-is, offset-is}
 
 -- ---- the same bytes
 

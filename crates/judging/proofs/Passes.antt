@@ -26,7 +26,7 @@ use Rattle.grammar.specs.WellFormed.{Order}
 use Rattle.grammar.specs.Machine.{familyOf, State, closed, orderly, after, onFamily}
 use Rattle.grammar.proofs.Tests.{both, taken}
 use Rattle.frame_scan.specs.Inner.{saidAt, spanAt, takesAt, takes, stops, scan}
-use Rattle.outline.specs.Inner.{usedAt, flagAt, blockAt, fullAt, lastAt, lastBlock, blocksFrom, codesAt, initiatorAt, sameRun, rightAt, secondAt, endsAt}
+use Rattle.outline.specs.Inner.{usedAt, flagAt, blockAt, fullAt, lastAt, lastBlock, blocksFrom, codesAt, initiatorAt, sameRun, endHere, rightAt, secondAt, endsAt}
 use Rattle.outline.specs.declared.answer.Codes.the-variants as codes
 use Rattle.outline.specs.declared.answer.Ends.the-variants as ended
 use Rattle.found.specs.Inner.{opensAt, firstAt}
@@ -134,12 +134,12 @@ module _ (f spans : List ℕ) (stop : ℕ) (P : ℕ → Type 0) (back : (p : ℕ
       past false q more = go (familyOf (getD f at 0)) q more
 
   end-back : (v : Version) (at : ℕ) → rightAt v f spans stop at ≡ true → P (at + (1 + endSize v)) → P at
-  unfolding rightAt
+  unfolding rightAt endHere
   end-back v at q h =
       let n = endSize v in
-      let (a, r) = both (leb (at + (1 + n)) stop) (eqb (getD f at 0) 0x39 && (eqb (getD spans 0x39 0) (1 + n) && initiatorAt v f at)) q in
-      let (b, r) = both (eqb (getD f at 0) 0x39) (eqb (getD spans 0x39 0) (1 + n) && initiatorAt v f at) r in
-      let (c, d) = both (eqb (getD spans 0x39 0) (1 + n)) (initiatorAt v f at) r in
+      let (e, d) = both (leb (at + (1 + n)) stop && (eqb (getD f at 0) 0x39 && eqb (getD spans 0x39 0) (1 + n))) (initiatorAt v f at) q in
+      let (a, r) = both (leb (at + (1 + n)) stop) (eqb (getD f at 0) 0x39 && eqb (getD spans 0x39 0) (1 + n)) e in
+      let (b, c) = both (eqb (getD f at 0) 0x39) (eqb (getD spans 0x39 0) (1 + n)) r in
       sized at 0x39 (1 + n) (eqb-true (getD f at 0) 0x39 b) (eqb-true (getD spans 0x39 0) (1 + n) c) (omega arith) (leb-true (at + (1 + n)) stop a) h
 
   second-back : (v : Version) (first at : ℕ) → secondAt v f spans stop first at ≡ true → P stop → P at

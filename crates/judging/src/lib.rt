@@ -26,19 +26,25 @@ fn refused(number: u8) -> Verdict
     Verdict::Refused { number, offset: 0 }
 }
 
-// A frame input that has these counts, and nobody in it.
-fn counts_of(p: Parts) -> Frames
-    ensures { λ r. ⌜ r .counts ≡ countsBy (p .tally) ⌝ }
+// How many rows were counted.
+pub fn counts_by(t: Tally) -> Counts
+    ensures { λ r. ⌜ r ≡ countsBy t ⌝ }
 {
-    let version = p.version;
-    let t = p.tally;
-    let counts = Counts {
+    Counts {
         frames: t.frames,
         items: t.items,
         fods: t.fods,
         whispys: t.whispys,
         stadiums: t.stadiums,
-    };
+    }
+}
+
+// A frame input that has these counts, and nobody in it.
+fn input_of(p: Parts) -> Frames
+    ensures { λ r. ⌜ r .counts ≡ countsBy (p .tally) ⌝ }
+{
+    let version = p.version;
+    let counts = counts_by(p.tally);
     let none = PortColumn {
         port: 0,
         follower: 0,
@@ -58,7 +64,7 @@ fn judge_counts(file: &[u8], first: usize, stop: usize, parts: Parts) -> Verdict
     requires { ⌜ Counted (now file) first stop parts ⌝ }
     ensures { λ r. ⌜ Verdicts (now (file .entry)) r ⌝ }
 {
-    let f = counts_of(parts);
+    let f = input_of(parts);
     if frames::judge::too_many(f, 512 * parts.blocks, 0) {
         return refused(TOO_MANY);
     }

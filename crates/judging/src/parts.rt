@@ -5,6 +5,7 @@ use found::parts::Judged;
 use found::parts::Parts;
 use found::parts::changing;
 use found::parts::start_fits;
+use frame_order::due::PortOrder;
 use frame_scan::Ran;
 use outline::answer::Codes;
 use outline::answer::Ends;
@@ -32,7 +33,7 @@ pub fn judge_parts(
     if !outline::listed_right(spans, v, blocks, actual) {
         return Judged::Wrong;
     }
-    let r = frame_scan::frames(file, spans, v, false, at, stop);
+    let r = frame_scan::frames(file, spans, v, PortOrder::Ascending, at, stop);
     let Ran::Ended { at: ends_at, tally } = r else {
         return Judged::Wrong;
     };

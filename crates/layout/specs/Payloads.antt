@@ -3,7 +3,7 @@
 use Prim.Native.Nat.{ℕ, _+_, _%_}
 use mathlib.Core.Bool.{Bool, true, false, cond}
 use mathlib.Core.List.{List, [], _∷_}
-use Rattle.format.specs.Version.{gteOf}
+use Rattle.format.specs.Version.{hasCodes, hasInitiator, hasPlacements}
 use Rattle.format.specs.Event.{codeOf}
 use Rattle.format.specs.File.{Entry}
 use Rattle.format.specs.declared.version.Version.{Version}
@@ -40,7 +40,7 @@ recordSize f v = headSize f + sizeOf f v
 
 -- GameEnd: method; from 2.0 initiator; from 3.13 four placements
 unfoldable pub endSize : Version → ℕ
-endSize v = cond (gteOf v 3 13) 6 (cond (gteOf v 2 0) 2 1)
+endSize v = cond (hasPlacements v) 6 (cond (hasInitiator v) 2 1)
 
 -- the order of the table
 abbrev pub order : List Event
@@ -69,8 +69,8 @@ listed v given event.GameEnd = true
 listed v given event.FrameStart = hasFamily v FrameStart
 listed v given event.Item = hasFamily v Item
 listed v given event.FrameEnd = hasFamily v FrameEnd
-listed v given event.GeckoCodes = cond given (gteOf v 3 3) false
-listed v given event.MessageSplitter = cond given (gteOf v 3 3) false
+listed v given event.GeckoCodes = cond given (hasCodes v) false
+listed v given event.MessageSplitter = cond given (hasCodes v) false
 listed v given event.FodPlatform = hasFamily v FodPlatform
 listed v given event.DreamlandWhispy = hasFamily v DreamlandWhispy
 listed v given event.StadiumTransformation = hasFamily v StadiumTransformation

@@ -4,7 +4,7 @@ ghost use mathlib.Core.Bool.{false, cond};
 ghost use Prim.Native.Nat.{_<_};
 ghost use lib.ListN.{length, getD};
 ghost use Rattle.wire.specs.Wire.{Room, Wrote};
-ghost use Rattle.format.specs.Version.{gteOf};
+ghost use Rattle.format.specs.Version.{hasCodes};
 ghost use Rattle.format.specs.File.{entriesBytes, tableBytes};
 ghost use Rattle.layout.specs.Payloads.{eventOf, headSize, recordSize, endSize, order, listed, payloadSize, entriesOf};
 ghost use Rattle.layout.specs.Inner.{paired, Tabled};
@@ -56,10 +56,10 @@ pub fn record_size(f: Family, v: Version) -> usize
 pub fn end_size(v: Version) -> usize
     ensures { λ r. ⌜ (r ≡ endSize v) × (r < 256) ⌝ }
 {
-    if v.gte(3, 13) {
+    if v.has_placements() {
         return 6;
     }
-    if v.gte(2, 0) {
+    if v.has_initiator() {
         return 2;
     }
     1
@@ -90,9 +90,9 @@ fn ordered(i: usize) -> Event
 
 // Codes are listed where they are given, from 3.3 on.
 fn with_codes(v: Version, given: bool) -> bool
-    ensures { λ r. ⌜ r ≡ cond given (gteOf v 3 3) false ⌝ }
+    ensures { λ r. ⌜ r ≡ cond given (hasCodes v) false ⌝ }
 {
-    if given { v.gte(3, 3) } else { false }
+    if given { v.has_codes() } else { false }
 }
 
 // Whether a version's table lists an event, with codes given or not.

@@ -16,7 +16,6 @@ use Rattle.ser.specs.declared.written.Written.the-variants.{File}
 use Rattle.ser.proofs.Outcomes.{Passed, passes, written}
 use Rattle.ser.proofs.Answered as answered
 use Rattle.ser.proofs.Sound.{length-fits}
-use Rattle.ser.proofs.Unfilled as unfilled
 use Rattle.append.specs.Run.{RunOutcome}
 use Rattle.append.specs.declared.appended.Appended.the-variants.{End}
 use Rattle.append.proofs.Runs.{ran, ran-is}

@@ -1,9 +1,8 @@
 -- The judge of rows: its tests, a turn of its loop, and lengths told up to a bound.
 -- Assumes nothing.
 use mathlib.Core.Path.{_≡_, refl, sym, ap, ap₂, _∙_}
-use mathlib.Core.Bool.{Bool, true, false, cond}
 use mathlib.Core.List.{List, [], _∷_, _++_}
-use Prim.Native.Nat.{ℕ, zero, suc, _+_, _-_, _*_, _/_, _^_, _≤_, _<_}
+use Prim.Native.Nat.{ℕ, zero, suc, _+_, _-_, _*_, _/_, _≤_, _<_}
 use native.Mathlib.Nat.{zero-add, add-zero, add-comm}
 use native.Mathlib.Omega.{arith}
 use native.Mathlib.Decide.{decLt}
@@ -13,8 +12,8 @@ use lib.ListN.{length, length-append}
 use Rattle.wire.specs.Wire.{be, part}
 use Rattle.wire.proofs.Laws.{length-be}
 use Rattle.format.proofs.Refusals.{skip, here, none}
-use Rattle.map.specs.Map.{Value, text, number, map, Map, empty, entry, textBytes, valueBytes, bodyOf}
-use Rattle.map.specs.Rows.{cellOf, keyOf, plainOf, worse, stored, textWrong, valueWrong, rowWrong, Grown, Sprout, grown, plainAt, nestedAt, valueAt, entriesAt, below, mapAt}
+use Rattle.map.specs.Map.{Value, text, map, Map, empty, entry, textBytes, valueBytes, bodyOf}
+use Rattle.map.specs.Rows.{cellOf, keyOf, plainOf, worse, stored, textWrong, valueWrong, rowWrong, Grown, Sprout, plainAt, nestedAt, valueAt, entriesAt, below, mapAt}
 use Rattle.map.specs.Inner.{capOf}
 use Rattle.map.proofs.Laws.{Row, row-right, length-part, text-value, number-value, worse-first, worse-second, worse-none, worse-assoc}
 use Rattle.map.proofs.Turns.{unroll, ran-out, value-plain, value-nested, below-is}

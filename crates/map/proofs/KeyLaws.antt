@@ -4,20 +4,19 @@ use mathlib.Core.Path.{_≡_, refl, sym, ap, ap₂, _∙_}
 use mathlib.Core.Bool.{Bool, true, false, cond, _&&_, _||_}
 use mathlib.Core.List.{List, [], _∷_, _++_, append-assoc, append-nil}
 use Prim.Native.Nat.{ℕ, zero, suc, _+_, _-_, _*_, _/_, _≤_, _<_}
-use native.Mathlib.Nat.{add-zero}
 use native.Mathlib.Numerals.{add-one, sub-one}
 use native.Mathlib.Omega.{arith}
 use native.Mathlib.Decide.{decLt, ℕ-discrete}
-use borrow.Author.Tests.{eqb-true, eq-eqb, ne-eqb, lt-ltb, le-ltb, le-leb, lt-leb}
+use borrow.Author.Tests.{eqb-true, eq-eqb, ne-eqb, lt-ltb, le-ltb, lt-leb}
 use lib.Dec.{eqb, ltb, leb}
 use lib.ListN.{length, getD}
 use lib.Seq.{drop-cons}
 use Rattle.wire.specs.Wire.{part, keep}
 use Rattle.format.specs.Refusal.{oneOf}
 use Rattle.format.proofs.Versions.{no-way}
-use Rattle.format.proofs.Tests.{one-here, one-skip, one-none}
-use Rattle.map.specs.Map.{Map, empty, same, has}
-use Rattle.map.specs.Rows.{cellOf, keyOf, stored, there, Grown, Sprout, grown, plainAt, nestedAt, valueAt, entriesAt, below, mapAt}
+use Rattle.format.proofs.Tests.{one-here, one-skip}
+use Rattle.map.specs.Map.{same, has}
+use Rattle.map.specs.Rows.{cellOf, keyOf, stored, Grown, Sprout, plainAt, nestedAt, valueAt, entriesAt, below, mapAt}
 use Rattle.map.specs.Keys.{keyStored, keyAt, afterAt, doubledIn, doubledBelow, doubledAt}
 use Rattle.map.specs.Inner.{Run, keysFrom, Repeats}
 use Rattle.map.proofs.Laws.{both, length-part}

@@ -1,17 +1,17 @@
 -- What is known of a row, and the parts of a text, a value and a map's body.
 -- Assumes nothing.
-use mathlib.Core.Path.{_≡_, refl, sym, ap, ap₂, _∙_}
-use mathlib.Core.Bool.{Bool, true, false, cond, not, _&&_}
-use mathlib.Core.List.{List, [], _∷_, _++_, append-assoc}
-use Prim.Native.Nat.{ℕ, zero, suc, _+_, _-_, _*_, _≤_, _<_}
+use mathlib.Core.Path.{_≡_, refl, sym, ap, _∙_}
+use mathlib.Core.Bool.{Bool, true, false, not, _&&_}
+use mathlib.Core.List.{List, [], _∷_, _++_}
+use Prim.Native.Nat.{ℕ, _+_, _-_, _*_, _≤_, _<_}
 use native.Mathlib.Omega.{arith}
 use native.Mathlib.Decide.{decLt, ℕ-discrete}
 use borrow.Author.Tests.{eq-eqb, ne-eqb, eqb-true, leb-true, lt-ltb, le-ltb, ltb-true, ltb-false, not-false}
 use lib.Dec.{eqb, leb, ltb}
 use lib.ListN.{length, take, drop, length-drop}
 use lib.Seq.{length-take-le}
-use Rattle.wire.specs.Wire.{be, part, Room, Wrote}
-use Rattle.map.specs.Map.{textBytes, valueBytes, text, number}
+use Rattle.wire.specs.Wire.{be, part}
+use Rattle.map.specs.Map.{textBytes, valueBytes, text}
 use Rattle.format.proofs.Versions.{no-way}
 use Rattle.format.proofs.Refusals.{passed}
 use Rattle.map.specs.Rows.{cellOf, there, keyOf, plainOf, worse, stored, textWrong, valueWrong, rowWrong}

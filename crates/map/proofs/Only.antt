@@ -4,10 +4,7 @@ use Prim.Native.Nat.{ℕ}
 use native.Mathlib.Decide.{ℕ-discrete}
 use mathlib.Core.Path.{_≡_, sym, _∙_}
 use mathlib.Core.List.{List}
-use lib.ListN.{length}
-use Rattle.wire.specs.Wire.{splice}
-use Rattle.map.specs.Map.{bodyOf}
-use Rattle.map.specs.Write.{lentMap, refusalOf, Outcome}
+use Rattle.map.specs.Write.{Outcome}
 use Rattle.map.specs.declared.write.Written.{Written}
 
 pub only : {before rows texts a b : List ℕ} {count : ℕ} {q r : Written} → Outcome before rows texts count a q → Outcome before rows texts count b r → (q .refusal ≡ r .refusal) × (q .len ≡ r .len) × (a ≡ b)

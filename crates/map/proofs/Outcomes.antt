@@ -1,21 +1,20 @@
 -- The public writer's answers, one law a return.
 -- Assumes nothing.
 use mathlib.Core.Path.{_≡_, refl, sym, ap, _∙_}
-use mathlib.Core.Bool.{Bool, true, false, cond, not}
+use mathlib.Core.Bool.{Bool, true, false, not}
 use mathlib.Core.List.{List, [], _∷_}
-use Prim.Native.Nat.{ℕ, suc, _+_, _*_, _/_, _%_, _≤_, _<_}
+use Prim.Native.Nat.{ℕ, _*_, _≤_, _<_}
 use native.Mathlib.Nat.{zero-add}
 use native.Mathlib.Omega.{arith}
 use native.Mathlib.Decide.{decLt}
-use borrow.Author.Tests.{eq-eqb, ne-eqb, eqb-true, lt-ltb, le-ltb, ltb-false}
+use borrow.Author.Tests.{eq-eqb, ne-eqb, lt-ltb, le-ltb, ltb-false}
 use lib.Dec.{eqb, ltb}
 use lib.ListN.{length}
-use Rattle.wire.specs.Wire.{splice, Room, Wrote}
-use Rattle.format.specs.Refusal.{Refusal, refuse, lowest, oneOf}
+use Rattle.wire.specs.Wire.{Room, Wrote}
+use Rattle.format.specs.Refusal.{refuse, lowest, oneOf}
 use Rattle.format.proofs.Refusals.{skip, here, none, passed}
 use Rattle.format.proofs.Tests.{other, same, same-of, one-here, one-skip, one-none, one-passed}
-use Rattle.map.specs.Map.{Map, bodyOf}
-use Rattle.map.specs.Rows.{Grown, mapAt}
+use Rattle.map.specs.Map.{bodyOf}
 use Rattle.map.specs.Keys.{doubledAt}
 use Rattle.map.specs.Inner.{capOf}
 use Rattle.map.specs.Write.{lentMap, refusalOf, Outcome}
@@ -52,7 +51,9 @@ module _ (rows texts : List ℕ) (count room : ℕ) {w : ℕ} (ew : w ≡ lentMa
       twice t = skip 20 22 _ _ (is-not 20 n1) (skip 21 22 _ _ (is-not 21 n2) (here 22 _ _ (sym ex ∙ t)))
 
       module _ (f : x ≡ false) where
-        after : (r : ℕ) → r ≡ lowest (refuse 23 (oneOf (not (eqb (lentMap rows texts count .refusal) 0) ∷ not (eqb (5 * lentMap rows texts count .next) (length rows)) ∷ [])) ∷ refuse 2 (ltb 65535 (length (bodyOf (lentMap rows texts count .map)))) ∷ refuse 12 (ltb room (length (bodyOf (lentMap rows texts count .map)))) ∷ [])
+        after : (r : ℕ)
+            → r ≡ lowest (refuse 23 (oneOf (not (eqb (lentMap rows texts count .refusal) 0) ∷ not (eqb (5 * lentMap rows texts count .next) (length rows)) ∷ []))
+            ∷ refuse 2 (ltb 65535 (length (bodyOf (lentMap rows texts count .map)))) ∷ refuse 12 (ltb room (length (bodyOf (lentMap rows texts count .map)))) ∷ [])
             → r ≡ refusalOf rows texts count room
         unfolding refusalOf
         after r e = skip 20 r _ _ (is-not 20 n1) (skip 21 r _ _ (is-not 21 n2) (skip 22 r _ _ (sym ex ∙ f) e))

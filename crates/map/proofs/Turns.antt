@@ -1,7 +1,7 @@
 -- One turn of the writer's loop: what the first of n entries is, and what the others are.
 -- Assumes nothing.
-use mathlib.Core.Path.{_≡_, refl, sym, ap, ap₂, _∙_}
-use mathlib.Core.Bool.{Bool, true, false, cond, _&&_}
+use mathlib.Core.Path.{_≡_, refl, sym, ap, _∙_}
+use mathlib.Core.Bool.{Bool, true, false}
 use mathlib.Core.List.{List, [], _∷_, _++_, append-assoc}
 use Prim.Native.Nat.{ℕ, zero, suc, _+_, _-_, _*_, _≤_, _<_}
 use native.Mathlib.Numerals.{sub-one}
@@ -10,8 +10,8 @@ use native.Mathlib.Decide.{decLt}
 use borrow.Author.Tests.{eq-eqb, ne-eqb, eqb-true, eqb-false, lt-ltb, le-ltb}
 use lib.Dec.{eqb}
 use lib.ListN.{length}
-use Rattle.map.specs.Map.{textBytes, valueBytes, bodyOf, empty, entry}
-use Rattle.map.specs.Rows.{cellOf, keyOf, plainOf, there, worse, rowWrong, Grown, Sprout, Deeper, grown, plainAt, nestedAt, valueAt, entriesAt, below, mapAt}
+use Rattle.map.specs.Map.{textBytes, valueBytes, bodyOf, empty}
+use Rattle.map.specs.Rows.{cellOf, keyOf, plainOf, there, rowWrong, Grown, Sprout, grown, plainAt, nestedAt, valueAt, entriesAt, below, mapAt}
 use Rattle.map.specs.Inner.{inside}
 use Rattle.wire.proofs.Writers.{Left}
 use Rattle.map.proofs.Laws.{worse-none, inside-is}

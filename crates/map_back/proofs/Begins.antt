@@ -7,19 +7,19 @@ use Prim.Native.Nat.{ℕ, zero, suc, _+_, _-_, _≤_, _<_}
 use native.Mathlib.Nat.{add-zero}
 use native.Mathlib.Omega.{arith}
 use native.Mathlib.Decide.{decLt, ℕ-discrete}
-use borrow.Author.Tests.{eq-eqb, ne-eqb, eqb-false}
+use borrow.Author.Tests.{eq-eqb}
 use lib.Dec.{eqb}
 use lib.ListN.{length, getD, drop}
 use lib.Seq.{getD-drop}
 use Rattle.map.specs.Map.{Map, bodyOf, has, Proper}
-use Rattle.map_reader.specs.Read.{Bytes, textStop, textOf, noText, otherWrong, Seen, SeenValue, refused, stopped, closed, entriesIn, inside, readAt, valueAt}
+use Rattle.map_reader.specs.Read.{Bytes, textStop, textOf, Seen, SeenValue, refused, closed, entriesIn, inside, readAt, valueAt}
 use Rattle.map_reader.specs.Answer.{wholeMap}
 use Rattle.map_reader.proofs.Steps.{text-yes, text-no, text-some, other-some, value-text, value-no-text, value-number, value-no-number, value-none, value-map, inside-none, inside-is, closed-refused, closed-open, closed-yes, entries-none, entries-cut, entries-twice, entries-bad, entries-more}
 use Rattle.map_reader.proofs.Sound.{stop-yes, sound}
 use Rattle.map_reader.proofs.Answers.{whole-refused, whole-yes, whole-more}
 use Rattle.map_back.specs.Terms.{Agree, extent}
 use Rattle.map_back.proofs.Complete.{body-complete, back}
-use Rattle.map_back.proofs.First.{value-far, entries-far, inside-far, stands-there, SameText, same-text, same-value, stop-kept}
+use Rattle.map_back.proofs.First.{value-far, entries-far, inside-far, stands-there, same-text, same-value, stop-kept}
 
 extent-text : (b : List ℕ) (s : ℕ) → getD b s 0 ≡ 0x55 → extent b s ≡ 2 + getD b (s + 1) 0
 unfolding extent

@@ -2,8 +2,8 @@
 -- Assumes nothing but that lent cells are numbers of 32 bits and lent bytes are bytes, as their types say.
 use mathlib.Core.Path.{_≡_, refl, sym, ap, _∙_}
 use mathlib.Core.Bool.{Bool, true, false, cond}
-use mathlib.Core.List.{List, [], _∷_, _++_, append-nil}
-use Prim.Native.Nat.{ℕ, zero, suc, _+_, _-_, _*_, _≤_, _<_}
+use mathlib.Core.List.{List, [], _∷_, append-nil}
+use Prim.Native.Nat.{ℕ, zero, suc, _+_, _*_, _≤_}
 use native.Mathlib.Numerals.{sub-one}
 use native.Mathlib.Omega.{arith}
 use native.Mathlib.Decide.{ℕ-discrete}
@@ -14,8 +14,8 @@ use lib.Seq.{take-at}
 use Rattle.wire.specs.Wire.{splice, part}
 use Rattle.wire.proofs.Laws.{splice-is}
 use Rattle.format.specs.Refusal.{refuse, lowest}
-use Rattle.map.specs.Map.{Value, text, number, map, Map, empty, entry, bodyOf}
-use Rattle.map.specs.Rows.{cellOf, keyOf, plainOf, rowWrong, Grown, Sprout, grown, plainAt, nestedAt, valueAt, entriesAt, below, mapAt}
+use Rattle.map.specs.Map.{text, number, map, bodyOf}
+use Rattle.map.specs.Rows.{cellOf, keyOf, plainOf, rowWrong, Grown, Sprout, grown, valueAt, entriesAt, below, mapAt}
 use Rattle.map.specs.Write.{lentMap, refusalOf, Outcome}
 use Rattle.map.specs.declared.write.Written.{Written}
 use Rattle.map.proofs.Laws.{worse-none}
@@ -29,7 +29,7 @@ use Rattle.map_reader.proofs.Sizes.{length-rows}
 use Rattle.map_back.specs.Terms.{Words, Agree, extent}
 use Rattle.map_back.proofs.Stand.{stand}
 use Rattle.map_back.proofs.Begins.{none-begins}
-use Rattle.map_back.proofs.Round.{taken-proper, written-read, taken-of, whole-body, gives-taken, read-written}
+use Rattle.map_back.proofs.Round.{taken-proper, written-read, taken-of, gives-taken, read-written}
 
 -- how far the rows of a map with nothing wrong reach, and how many entries it has itself
 record Sized (n k : ℕ) (g : Grown) : Type 0 where

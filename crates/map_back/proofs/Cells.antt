@@ -1,11 +1,10 @@
 -- The cells of the entries that are read are numbers of 32 bits, since texts are short, numbers fit and the body has at most 65,535 bytes.
 -- Assumes nothing.
-use mathlib.Core.Path.{_≡_, refl, sym, ap, _∙_}
 use mathlib.Core.List.{List, [], _∷_, _++_}
 use Prim.Native.Nat.{ℕ, zero, suc, _+_, _^_, _≤_, _<_}
 use native.Mathlib.Omega.{arith}
 use lib.Dec.{lit<}
-use lib.ListN.{length, getD}
+use lib.ListN.{length}
 use Rattle.map.specs.Map.{Value, text, number, map, Map, empty, entry, textBytes, valueBytes, bodyOf, fitsValue, fits}
 use Rattle.map.proofs.Judging.{length-text, map-length, entry-length}
 use Rattle.map_reader.specs.Back.{countOf, kindOf, fourthOf, fifthOf, rowOf, innerRows, rowsOf}

@@ -1,11 +1,10 @@
 -- Whatever map fits is read from its body, entry by entry.
 -- Assumes nothing.
 use mathlib.Core.Path.{_≡_, refl, sym, ap, ap₂, _∙_}
-use mathlib.Core.Bool.{Bool, true, false, _||_}
+use mathlib.Core.Bool.{false, _||_}
 use mathlib.Core.List.{List, [], _∷_, _++_, append-nil}
-use Prim.Native.Nat.{ℕ, zero, suc, _+_, _-_, _^_, _≤_, _<_}
+use Prim.Native.Nat.{ℕ, zero, suc, _+_, _-_, _^_, _<_}
 use native.Mathlib.Nat.{add-zero, zero-add}
-use native.Mathlib.Numerals.{add-one, sub-one}
 use native.Mathlib.Omega.{arith}
 use borrow.Author.Tests.{eqb-false}
 use lib.ListN.{length, getD, length-append}
@@ -13,12 +12,12 @@ use lib.Seq.{getD-drop}
 use Rattle.wire.specs.Wire.{be, part, number as numberOf}
 use Rattle.wire.proofs.Laws.{length-be, number-be}
 use Rattle.map.specs.Map.{Value, text, number, map, Map, empty, entry, textBytes, valueBytes, bodyOf, fitsValue, fits, has, twiceValue, twiceIn, Proper}
-use Rattle.map_reader.specs.Read.{textStop, textOf, Seen, SeenValue, closed, valueIn, joined, entriesIn, inside, readAt, valueAt}
+use Rattle.map_reader.specs.Read.{textStop, textOf, Seen, SeenValue, closed, joined, entriesIn, inside, readAt, valueAt}
 use Rattle.format.proofs.Tests.{or-none}
 use Rattle.map.proofs.Judging.{length-text}
 use Rattle.map_reader.specs.Answer.{wholeMap}
 use Rattle.map_reader.proofs.Answers.{whole-yes}
-use Rattle.map_reader.proofs.Places.{Stands, first-is, second-is, part-is, rest-is}
+use Rattle.map_reader.proofs.Places.{Stands, first-is, second-is, part-is}
 use Rattle.map_reader.proofs.Steps.{text-yes, value-text, value-number, value-map, closed-yes, inside-is, entries-none, entries-more}
 
 moved : {b : List ℕ} {p q : ℕ} {xs rest : List ℕ} → p ≡ q → Stands b p xs rest → Stands b q xs rest

@@ -1,19 +1,17 @@
 -- The first wrong place decides: no body that begins with the same bytes up to that place is wrong before it.
 -- Assumes nothing.
 use mathlib.Core.Path.{_≡_, refl, sym, ap, ap₂, _∙_}
-use mathlib.Core.Bool.{Bool, true, false, cond}
+use mathlib.Core.Bool.{Bool, true, false}
 use mathlib.Core.List.{List, [], _∷_, _++_}
 use Prim.Native.Nat.{ℕ, zero, suc, _+_, _-_, _≤_, _<_}
 use native.Mathlib.Omega.{arith}
 use native.Mathlib.Decide.{decLt, ℕ-discrete}
-use borrow.Author.Tests.{eq-eqb, ne-eqb, eqb-false}
-use lib.Dec.{eqb}
 use lib.ListN.{length, getD, drop}
 use Rattle.wire.specs.Wire.{part}
-use Rattle.map.specs.Map.{Value, Map, textBytes, valueBytes, has}
+use Rattle.map.specs.Map.{textBytes, valueBytes, has}
 use Rattle.map.proofs.Laws.{length-part}
 use Rattle.map.proofs.KeyLaws.{part-cons, part-none}
-use Rattle.map_reader.specs.Read.{Bytes, textStop, textOf, otherWrong, Seen, SeenValue, refused, stopped, closed, valueIn, joined, entriesIn, inside, readAt, valueAt}
+use Rattle.map_reader.specs.Read.{Bytes, textStop, textOf, Seen, SeenValue, refused, closed, entriesIn, inside, readAt, valueAt}
 use Rattle.map_reader.specs.Answer.{wholeMap}
 use Rattle.map_reader.proofs.Places.{Stands, stands-part, part-is, there}
 use Rattle.map_reader.proofs.Steps.{value-text, value-no-text, value-number, value-no-number, value-none, value-map, inside-none, inside-is, closed-refused, closed-open, closed-yes, entries-none, entries-cut, entries-twice, entries-bad, entries-more}

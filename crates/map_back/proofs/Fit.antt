@@ -3,16 +3,16 @@
 use mathlib.Core.Path.{_≡_, refl, sym, ap, ap₂, _∙_}
 use mathlib.Core.Bool.{Bool, true, false, cond, _&&_, _||_}
 use mathlib.Core.List.{List, [], _∷_, _++_}
-use Prim.Native.Nat.{ℕ, zero, suc, _+_, _-_, _*_, _^_, _≤_, _<_}
+use Prim.Native.Nat.{ℕ, zero, suc, _+_, _-_, _*_, _<_}
 use native.Mathlib.Omega.{arith}
 use native.Mathlib.Decide.{ℕ-discrete}
 use borrow.Author.Tests.{eq-eqb, ne-eqb, le-leb}
 use lib.Dec.{eqb, leb}
-use lib.ListN.{length, getD}
+use lib.ListN.{length}
 use Rattle.wire.specs.Wire.{part, keep}
 use Rattle.format.specs.Refusal.{oneOf}
-use Rattle.map.specs.Map.{Value, text, number, map, Map, empty, entry, fitsValue, fits, has, twiceValue, twiceIn, Proper}
-use Rattle.map.specs.Rows.{cellOf, keyOf, plainOf, worse, stored, rowWrong, Grown, Sprout, grown, plainAt, nestedAt, valueAt, entriesAt, below, mapAt}
+use Rattle.map.specs.Map.{text, number, map, fitsValue, fits, has, twiceValue, twiceIn}
+use Rattle.map.specs.Rows.{cellOf, keyOf, plainOf, stored, rowWrong, Grown, Sprout, grown, valueAt, entriesAt, below, mapAt}
 use Rattle.map.specs.Keys.{keyStored, keyAt, afterAt, doubledIn, doubledBelow, doubledAt}
 use Rattle.map_back.specs.Terms.{Words}
 use Rattle.map.proofs.Laws.{Row, row-right, length-part, worse-none}

@@ -1,19 +1,17 @@
 -- A body of 65,535 bytes and one of 65,536, by a law over lengths.
 -- Assumes nothing.
 use Prim.Native.Nat.{ℕ, _*_, _≤_, _<_}
-use mathlib.Core.Path.{_≡_, refl, sym, ap, _∙_}
-use mathlib.Core.Bool.{Bool, true, false}
-use mathlib.Core.List.{List, [], _∷_}
+use mathlib.Core.Path.{_≡_, refl, sym, ap}
+use mathlib.Core.Bool.{false}
+use mathlib.Core.List.{List}
 use native.Mathlib.Omega.{arith}
-use borrow.Author.Tests.{eq-eqb, ne-eqb, lt-ltb, le-ltb}
+use borrow.Author.Tests.{eq-eqb, lt-ltb}
 use lib.Dec.{eqb, ltb}
 use lib.ListN.{length}
-use Rattle.format.specs.Refusal.{refuse, lowest}
-use Rattle.format.proofs.Refusals.{skip, here, none}
+use Rattle.format.proofs.Refusals.{here}
 use Rattle.map.specs.Map.{Map, bodyOf, Proper}
 use Rattle.map.specs.Write.{lentMap, refusalOf}
 use Rattle.map.specs.Keys.{doubledAt}
-use Rattle.map.specs.Inner.{capOf}
 use Rattle.map.proofs.Judging.{cap-over}
 use Rattle.map.proofs.Outcomes.{too-long}
 use Rattle.map_reader.specs.Read.{Seen}

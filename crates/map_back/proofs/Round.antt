@@ -1,31 +1,29 @@
 -- There and back: what is written is read as the same map, what is read is written as the same body, and the reader takes exactly what the writer gives.
 -- Assumes nothing.
-use mathlib.Core.Path.{_≡_, refl, sym, ap, ap₂, _∙_}
-use mathlib.Core.Bool.{Bool, true, false, cond}
+use mathlib.Core.Path.{_≡_, sym, ap, _∙_}
+use mathlib.Core.Bool.{false}
 use mathlib.Core.List.{List, [], _∷_, _++_, append-nil}
-use Prim.Native.Nat.{ℕ, suc, _+_, _*_, _^_, _≤_, _<_}
+use Prim.Native.Nat.{ℕ, _+_, _*_, _≤_}
 use native.Mathlib.Omega.{arith}
 use native.Mathlib.Decide.{ℕ-discrete}
 use borrow.Author.Tests.{eq-eqb, ne-eqb, le-ltb, ltb-false}
 use lib.Dec.{eqb, ltb}
-use lib.ListN.{length, drop, getD}
+use lib.ListN.{length, drop}
 use lib.Seq.{drop-length}
-use Rattle.format.specs.Refusal.{refuse, lowest}
+use Rattle.format.specs.Refusal.{refuse}
 use Rattle.format.proofs.Refusals.{skip, none, passed}
-use Rattle.map.specs.Map.{Map, bodyOf, fits, twiceIn, Proper}
-use Rattle.map.specs.Rows.{Grown, mapAt}
-use Rattle.map.specs.Keys.{doubledAt}
+use Rattle.map.specs.Map.{bodyOf, fits, twiceIn, Proper}
+use Rattle.map.specs.Rows.{Grown}
 use Rattle.map.specs.Write.{lentMap, refusalOf}
-use Rattle.map.proofs.Outcomes.{Accepted, accepted-of, refused-as}
-use Rattle.map_reader.specs.Read.{Bytes, Seen, readAt, otherWrong, stopped}
+use Rattle.map.proofs.Outcomes.{accepted-of, refused-as}
+use Rattle.map_reader.specs.Read.{Bytes, Seen, readAt}
 use Rattle.map_reader.specs.Back.{countOf, sizeOf, rowsOf}
 use Rattle.map_reader.specs.Answer.{wholeMap, readRefusal}
-use Rattle.map_reader.proofs.Places.{Stands}
 use Rattle.map_reader.proofs.Sound.{sound}
 use Rattle.map_reader.proofs.Steps.{other-some}
 use Rattle.map_reader.proofs.Sizes.{length-rows}
 use Rattle.map_reader.proofs.Answers.{whole-refused, whole-yes, whole-more}
-use Rattle.map_back.proofs.Complete.{back, one-map}
+use Rattle.map_back.proofs.Complete.{back}
 use Rattle.map_back.proofs.Stand.{stand}
 use Rattle.map_back.specs.Terms.{Words}
 use Rattle.map_back.proofs.Fit.{rows-right}

@@ -1,22 +1,19 @@
 -- The rows that the reader fills stand for the map that it read, with the body as their text store.
 -- Assumes nothing.
 use mathlib.Core.Path.{_≡_, refl, sym, ap, ap₂, _∙_}
-use mathlib.Core.Bool.{Bool, true, false, cond, _&&_}
-use mathlib.Core.List.{List, [], _∷_, _++_, append-assoc}
-use Prim.Native.Nat.{ℕ, zero, suc, _+_, _-_, _*_, _^_, _≤_, _<_}
+use mathlib.Core.List.{List, [], _∷_, _++_}
+use Prim.Native.Nat.{ℕ, zero, suc, _+_, _-_, _*_, _≤_, _<_}
 use native.Mathlib.Nat.{add-zero}
 use native.Mathlib.Omega.{arith}
 use native.Mathlib.Decide.{ℕ-discrete}
-use borrow.Author.Tests.{eq-eqb, ne-eqb, eqb-true, eqb-false, le-leb, lt-ltb}
-use lib.Dec.{eqb, leb, ltb, lit<}
-use lib.ListN.{length, getD, length-append}
-use Rattle.wire.specs.Wire.{be, part}
+use lib.ListN.{length, getD}
+use Rattle.wire.specs.Wire.{part}
 use Rattle.map.specs.Map.{Value, text, number, map, Map, empty, entry, textBytes, valueBytes, bodyOf, fitsValue, fits}
-use Rattle.map.specs.Rows.{cellOf, keyOf, plainOf, stored, textWrong, valueWrong, rowWrong, worse, Grown, Sprout, Deeper, grown, plainAt, nestedAt, valueAt, entriesAt, below, mapAt}
+use Rattle.map.specs.Rows.{cellOf, keyOf, plainOf, valueWrong, rowWrong, worse, Grown, grown, valueAt, entriesAt, below, mapAt}
 use Rattle.map_reader.specs.Back.{countOf, kindOf, fourthOf, fifthOf, rowOf, innerRows, rowsOf, sizeValue, sizeOf}
 use Rattle.map_reader.proofs.Places.{Stands, first-is, second-is, part-is}
-use Rattle.map_reader.proofs.Sizes.{length-inner, length-rows}
-use Rattle.map.proofs.Judging.{length-text, text-fine, wrong-text, wrong-none, row-as}
+use Rattle.map_reader.proofs.Sizes.{length-inner}
+use Rattle.map.proofs.Judging.{text-fine, wrong-text, wrong-none, row-as}
 use Rattle.map.proofs.Laws.{worse-first}
 use Rattle.map.proofs.Turns.{unroll}
 

@@ -1,10 +1,9 @@
 -- Entries, computed: what the writer says of them, and their bodies.
 -- Assumes nothing.
-use Prim.Native.Nat.{ℕ, zero, suc, _+_, _*_}
+use Prim.Native.Nat.{ℕ, zero, suc}
 use mathlib.Core.Path.{_≡_, refl}
-use mathlib.Core.Bool.{Bool, true, false}
 use mathlib.Core.List.{List, [], _∷_, _++_, map}
-use lib.ListN.{length, replicate}
+use lib.ListN.{replicate}
 use Rattle.wire.specs.Wire.{be, part, keep}
 use Rattle.format.specs.Refusal.{lowest, oneOf}
 use Rattle.map.specs.Map.{same, has, textBytes, valueBytes, bodyOf}

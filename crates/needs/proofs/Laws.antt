@@ -1,14 +1,14 @@
 -- The laws of what is needed.
 -- Assumes nothing.
 use mathlib.Core.Path.{_≡_, refl, sym, ap, subst, _∙_}
-use mathlib.Core.Bool.{Bool, true, false, cond, _||_}
+use mathlib.Core.Bool.{Bool, true, false, _||_}
 use mathlib.Core.List.{List, [], _∷_, _++_, append-assoc, append-nil}
 use Prim.Native.Nat.{ℕ, suc, _+_, _-_, _*_, _/_, _≤_, _<_}
 use native.Mathlib.Nat.{mul-le-mul}
 use native.Mathlib.Omega.{arith}
 use lib.ListN.{length, set, replicate, length-append}
 use Rattle.wire.specs.Wire.{keep, ranged}
-use Rattle.game.specs.Frames.{noPort, rowsOf}
+use Rattle.game.specs.Frames.{noPort, rowsOf, isMarked}
 use Rattle.game.specs.declared.frames.PortColumn.{PortColumn}
 use Rattle.game.specs.declared.frames.Frames.{Frames}
 use Rattle.layout.specs.declared.columns.Family.{Family}
@@ -16,7 +16,7 @@ use Rattle.players.specs.Inner.{Modest}
 use Rattle.players.proofs.CountLaws.{rows-most}
 use Rattle.format.specs.declared.version.Version.{Version}
 use Rattle.game.specs.declared.frames.Counts.{Counts}
-use Rattle.needs.specs.Inner.{markAt, columnBy, portBy, portsBy, Listing, framesBy}
+use Rattle.needs.specs.Inner.{columnBy, portBy, portsBy, Listing, framesBy}
 use Rattle.needs.specs.declared.Ports.{Ports}
 
 pub store-small : (f : Frames) (family : Family) (c r b : ℕ) → Modest f → c ≤ 32 → r ≡ rowsOf f family → b ≤ 8 → (c * r ≤ 134217728) × (b * (c * r) ≤ 1073741824)
@@ -52,7 +52,7 @@ bits-small k f h m =
     omega arith
 
 -- port n's column is there where one of its marks is
-module _ (slots bytes n : ℕ) (leader follower : Bool) (l : leader ≡ markAt slots (2 * n)) (f : follower ≡ markAt slots (2 * n + 1)) where
+module _ (slots bytes n : ℕ) (leader follower : Bool) (l : leader ≡ isMarked slots (2 * n)) (f : follower ≡ isMarked slots (2 * n + 1)) where
   pub port-there : leader || follower ≡ true → portBy slots bytes n ≡ columnBy n follower bytes ∷ []
   unfolding portBy keep
   port-there e = rw (← l, ← f, e)

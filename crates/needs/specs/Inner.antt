@@ -1,33 +1,28 @@
 -- What functions promise each other: the frame input and the stores' lengths by numbers.
 -- Assumes nothing.
-use Prim.Native.Nat.{ℕ, _+_, _-_, _*_, _/_, _%_, _^_}
+use Prim.Native.Nat.{ℕ, _+_, _-_, _*_, _/_}
 use mathlib.Core.Path.{_≡_}
 use mathlib.Core.Bool.{Bool, cond, _||_}
 use mathlib.Core.List.{List, [], _∷_, _++_}
-use lib.Dec.{eqb}
 use lib.ListN.{length, replicate}
 use Rattle.wire.specs.Wire.{ranged, keep}
 use Rattle.format.specs.declared.version.Version.{Version}
 use Rattle.layout.specs.Columns.{hasFamily, widthsOf}
 use Rattle.layout.specs.declared.columns.Family.{Family}
 use Rattle.layout.specs.declared.columns.Family.the-variants.{Pre, Post, FrameStart, Item, FrameEnd, FodPlatform, DreamlandWhispy, StadiumTransformation}
-use Rattle.game.specs.Frames.{noPort, slotsOf, slotBlocks, rowsOf}
+use Rattle.game.specs.Frames.{noPort, slotsOf, slotBlocks, rowsOf, isMarked}
 use Rattle.game.specs.declared.frames.PortColumn.{PortColumn}
 use Rattle.game.specs.declared.frames.Counts.{Counts}
 use Rattle.game.specs.declared.frames.Frames.{Frames}
 use Rattle.needs.specs.declared.Ports.{Ports}
 use Rattle.needs.specs.declared.Lengths.{Lengths}
 
--- bit k
-unfoldable pub markAt : ℕ → ℕ → Bool
-markAt slots k = eqb (slots / 2 ^ k % 2) 1
-
 -- the column of port n; it is there where its leader or its follower is marked
 abbrev pub columnBy : ℕ → Bool → ℕ → PortColumn
 columnBy n follows bytes = record { port = n; follower = cond follows 1 0; «leader_presence» = bytes; «follower_presence» = cond follows bytes 0 }
 
 unfoldable pub portBy : ℕ → ℕ → ℕ → List PortColumn
-portBy slots bytes n = keep (markAt slots (2 * n) || markAt slots (2 * n + 1)) (columnBy n (markAt slots (2 * n + 1)) bytes ∷ [])
+portBy slots bytes n = keep (isMarked slots (2 * n) || isMarked slots (2 * n + 1)) (columnBy n (isMarked slots (2 * n + 1)) bytes ∷ [])
 
 -- four places have these columns, and then none
 pub record Listing (xs : List PortColumn) (p : Ports) : Type 0 where

@@ -2,10 +2,10 @@
 ghost use mathlib.Core.Path.{_≡_};
 ghost use mathlib.Core.List.{List, [], _++_};
 ghost use Prim.Native.Nat.{_+_, _≤_, _<_};
-ghost use lib.ListN.{length};
 ghost use Rattle.players.specs.Inner.{Modest};
+ghost use Rattle.game.specs.Frames.{isMarked};
 ghost use Rattle.game.specs.declared.frames.PortColumn.{PortColumn};
-ghost use Rattle.needs.specs.Inner.{markAt, columnBy, portBy, Listing, portsBy, framesBy, storeBy, offsetsBy, lengthsBy};
+ghost use Rattle.needs.specs.Inner.{columnBy, portBy, Listing, portsBy, framesBy, storeBy, offsetsBy, lengthsBy};
 use format::version::Version;
 use game::frames::Counts;
 use game::frames::Frames;
@@ -42,7 +42,7 @@ struct Ports {
 // Whether slot k is marked.
 fn is_marked(slots: usize, k: usize) -> bool
     requires { ⌜ k < 8 ⌝ }
-    ensures { λ r. ⌜ r ≡ markAt slots k ⌝ }
+    ensures { λ r. ⌜ r ≡ isMarked slots k ⌝ }
 {
     (slots >> k) % 2 == 1
 }

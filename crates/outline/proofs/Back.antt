@@ -9,10 +9,11 @@ use native.Mathlib.Omega.{arith}
 use borrow.Author.Tests.{eq-eqb, ne-eqb}
 use lib.ListN.{length, getD}
 use Rattle.wire.specs.Wire.{ranged, keep}
+use Rattle.format.specs.Version.{hasInitiator, hasPlacements}
 use Rattle.format.specs.Mark as mark
 use Rattle.format.specs.declared.version.Version.{Version}
 use Rattle.layout.specs.Payloads.{endSize}
-use Rattle.ending.specs.End.{hasInitiator, hasPlacements, placementOf, placementsOf, endOf, initiatorWrong, endWrong}
+use Rattle.ending.specs.End.{placementOf, placementsOf, endOf, initiatorWrong, endWrong}
 use Rattle.ending.proofs.Lengths.{length-end}
 use Rattle.game.specs.declared.end.End.{End}
 use Rattle.outline.specs.End.{markBy, valueBy, fourZeros, initiatorIn, placedIn, placementsIn, endIn}

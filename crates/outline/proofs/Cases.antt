@@ -12,7 +12,7 @@ use Rattle.layout.specs.Payloads.{endSize}
 use Rattle.ending.specs.End.{initiatorWrong}
 use Rattle.outline.specs.End.{markBy, valueBy, initiatorIn, placedIn, placementsIn, endIn}
 use Rattle.outline.specs.Listed.{listedRight}
-use Rattle.outline.specs.Inner.{blockAt, fullAt, lastAt, lastBlock, blocksFrom, codesAt, initiatorAt, sameRun, rightAt, secondAt, endsAt}
+use Rattle.outline.specs.Inner.{blockAt, fullAt, lastAt, lastBlock, blocksFrom, codesAt, initiatorAt, sameRun, endHere, rightAt, secondAt, endsAt}
 use Rattle.outline.specs.declared.answer.Codes.the-variants as codes
 use Rattle.outline.specs.declared.answer.Ends.the-variants as ends
 
@@ -33,7 +33,7 @@ some-ends :
     ∷ (0x3C ∷ 2 ∷ 3 ∷ [])
     ∷ [])
     ≡ ends.Good 0 ∷ ends.Good 1 ∷ ends.Good 2 ∷ ends.Wrong ∷ ends.Wrong ∷ ends.Wrong ∷ ends.Wrong ∷ ends.Wrong ∷ []
-unfolding only endsAt rightAt secondAt sameRun initiatorAt initiatorWrong endSize gteOf above
+unfolding only endsAt endHere rightAt secondAt sameRun initiatorAt initiatorWrong endSize gteOf above
 some-ends = refl
 
 -- a payload at the versions where it grows

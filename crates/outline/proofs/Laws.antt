@@ -12,14 +12,14 @@ use lib.ListN.{length, getD, take, drop, length-drop}
 use lib.Seq.{getD-take, getD-drop, length-take-le}
 use Rattle.wire.specs.Wire.{part, ranged, Room, Wrote}
 use Rattle.wire.proofs.Laws.{length-ranged-below}
-use Rattle.format.specs.Version.{gteOf}
+use Rattle.format.specs.Version.{gteOf, hasInitiator, hasPlacements}
 use Rattle.format.specs.declared.version.Version.{Version}
 use Rattle.layout.specs.Payloads.{endSize}
-use Rattle.ending.specs.End.{hasInitiator, hasPlacements, initiatorWrong}
+use Rattle.ending.specs.End.{initiatorWrong}
 use Rattle.game.specs.declared.end.End.{End}
 use Rattle.outline.specs.End.{markBy, valueBy, ofFour, fourZeros, initiatorIn, placedIn, placementsIn, endIn}
 use Rattle.outline.specs.Listed.{listedRight}
-use Rattle.outline.specs.Inner.{Within, usedAt, flagAt, blockAt, fullAt, lastAt, lastBlock, blocksFrom, codesAt, initiatorAt, sameRun, rightAt, secondAt, endsAt}
+use Rattle.outline.specs.Inner.{Within, usedAt, flagAt, blockAt, fullAt, lastAt, lastBlock, blocksFrom, codesAt, initiatorAt, sameRun, endHere, rightAt, secondAt, endsAt}
 use Rattle.outline.specs.declared.answer.Codes.the-variants as codes
 use Rattle.outline.specs.declared.answer.Ends.the-variants as ends
 
@@ -200,26 +200,34 @@ module _ (v : Version) (file : List ℕ) (at : ℕ) (b : Bool) (b-is : b ≡ has
         go true = refl
         go false = refl
 
+pub end-size-as : (v : Version) (n : ℕ) → n ≡ endSize v → 1 + n ≡ 1 + endSize v
+end-size-as v n e = ap (λ (k : ℕ). 1 + k) e
+
 module _ (v : Version) (file spans : List ℕ) (stop at n : ℕ) (n-is : n ≡ 1 + endSize v) where
-  pub right-short : stop < at + n → false ≡ rightAt v file spans stop at
-  unfolding rightAt
-  right-short h = rw (lt-leb (at + (1 + endSize v)) stop (omega (arith, n-is)))
+  pub here-short : stop < at + n → false ≡ endHere v file spans stop at
+  unfolding endHere
+  here-short h = rw (lt-leb (at + (1 + endSize v)) stop (omega (arith, n-is)))
 
   module _ (whole : at + n ≤ stop) where
     all-there : leb (at + (1 + endSize v)) stop ≡ true
     all-there = le-leb (at + (1 + endSize v)) stop (omega (arith, n-is))
 
-    pub right-other : (getD file at 0 ≡ 0x39 → ⊥) → false ≡ rightAt v file spans stop at
-    unfolding rightAt
-    right-other h = rw (all-there, ne-eqb (getD file at 0) 0x39 h)
+    pub here-other : (getD file at 0 ≡ 0x39 → ⊥) → false ≡ endHere v file spans stop at
+    unfolding endHere
+    here-other h = rw (all-there, ne-eqb (getD file at 0) 0x39 h)
 
-    pub right-unlisted : getD file at 0 ≡ 0x39 → (getD spans 0x39 0 ≡ n → ⊥) → false ≡ rightAt v file spans stop at
-    unfolding rightAt
-    right-unlisted c h = rw (all-there, eq-eqb (getD file at 0) 0x39 c, ne-eqb (getD spans 0x39 0) (1 + endSize v) (λ e. h (e ∙ sym n-is)))
+    pub here-as : getD file at 0 ≡ 0x39 → (k : ℕ) → k ≡ getD spans 0x39 0 → eqb k n ≡ endHere v file spans stop at
+    unfolding endHere
+    here-as c k e = rw (all-there, eq-eqb (getD file at 0) 0x39 c, ← n-is) (ap (λ (x : ℕ). eqb x n) e)
 
-    pub right-as : getD file at 0 ≡ 0x39 → getD spans 0x39 0 ≡ n → (r : Bool) → r ≡ initiatorAt v file at → r ≡ rightAt v file spans stop at
-    unfolding rightAt
-    right-as c h r e = rw (all-there, eq-eqb (getD file at 0) 0x39 c, eq-eqb (getD spans 0x39 0) (1 + endSize v) (h ∙ n-is)) e
+module _ (v : Version) (file spans : List ℕ) (stop at : ℕ) (e : Bool) (e-is : e ≡ endHere v file spans stop at) where
+  pub right-not : e ≡ false → false ≡ rightAt v file spans stop at
+  unfolding rightAt
+  right-not q = rw (sym e-is ∙ q)
+
+  pub right-as : e ≡ true → (r : Bool) → r ≡ initiatorAt v file at → r ≡ rightAt v file spans stop at
+  unfolding rightAt
+  right-as q r i = rw (sym e-is ∙ q) i
 
 -- ---- bytes that are alike: the answer is that of what is left
 

@@ -14,13 +14,14 @@ use lib.ListN.{length, getD, drop, length-append}
 use lib.Seq.{getD-drop, drop-drop, take-at}
 use Rattle.wire.specs.Wire.{be, part, ranged}
 use Rattle.wire.proofs.Laws.{length-be}
+use Rattle.format.specs.Version.{hasInitiator}
 use Rattle.format.specs.Event.{codeOf}
 use Rattle.format.specs.File.{Ev, eventBytes, eventsBytes}
 use Rattle.format.specs.declared.event.Event.the-variants.{GameEnd, GeckoCodes, MessageSplitter}
 use Rattle.format.specs.declared.version.Version.{Version}
 use Rattle.format.proofs.Versions.{no-way}
 use Rattle.layout.specs.Payloads.{endSize}
-use Rattle.ending.specs.End.{hasInitiator, initiatorWrong}
+use Rattle.ending.specs.End.{initiatorWrong}
 use Rattle.grammar.specs.Productions.{Block, blockEvent, codesEvents, endEvent, usedIn}
 use Rattle.grammar.specs.WellFormed.{Each, GoodCodes}
 use Rattle.grammar.specs.Readable.{Alike}

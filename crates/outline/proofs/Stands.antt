@@ -12,17 +12,18 @@ use lib.Dec.{leb, eqb}
 use lib.ListN.{length, getD, take, drop, length-append, length-drop, List·getD-append}
 use lib.Seq.{getD-drop, drop-drop, drop-at, take-append-le, drop-append-le}
 use Rattle.wire.specs.Wire.{number, part}
+use Rattle.format.specs.Version.{hasInitiator}
 use Rattle.format.specs.Event.{codeOf}
 use Rattle.format.specs.File.{Ev, eventBytes, eventsBytes}
 use Rattle.format.specs.declared.event.Event.the-variants.{GeckoCodes, MessageSplitter}
 use Rattle.format.specs.declared.version.Version.{Version}
 use Rattle.layout.specs.Payloads.{endSize}
-use Rattle.ending.specs.End.{hasInitiator, initiatorWrong}
+use Rattle.ending.specs.End.{initiatorWrong}
 use Rattle.grammar.specs.WellFormed.{Each}
 use Rattle.grammar.specs.Whole.{isBlock, usedBy, flagIn, isLast, isFull, isEnd}
 use Rattle.grammar.proofs.Tests.{both}
 use Rattle.frame_scan.proofs.Same.{Spanned}
-use Rattle.outline.specs.Inner.{usedAt, flagAt, blockAt, fullAt, lastAt, initiatorAt, rightAt}
+use Rattle.outline.specs.Inner.{usedAt, flagAt, blockAt, fullAt, lastAt, initiatorAt, endHere, rightAt}
 use Rattle.outline.proofs.Laws.{size-two}
 
 -- events from a place up to stop, and others behind them
@@ -130,9 +131,9 @@ module _ (file spans : List ℕ) (stop : ℕ) (tail : List ℕ) (at : ℕ) (e : 
   named-at v true h n = rw (h, byte-at 1 (omega (arith, size-two v true (sym h) refl, n)))
   named-at v false h n = rw h
 
-  pub right-at : (v : Version) → rightAt v file spans stop at ≡ (isEnd v e && not (hasInitiator v && initiatorWrong (getD (e .payload) 1 0)))
-  unfolding rightAt isEnd
-  right-at v =
+  pub end-stands : (v : Version) → endHere v file spans stop at ≡ isEnd v e
+  unfolding endHere isEnd
+  end-stands v =
       elim (ℕ-discrete (e .code) 0x39) [
         | yes c ↦
             let span : getD spans 0x39 0 ≡ suc (length (e .payload)) = ap (λ (c : ℕ). getD spans c 0) (sym c) ∙ span-is in
@@ -145,7 +146,6 @@ module _ (file spans : List ℕ) (stop : ℕ) (tail : List ℕ) (at : ℕ) (e : 
                     eq-eqb (getD spans 0x39 0) (1 + endSize v) (omega (arith, span, n)),
                     eq-eqb (length (e .payload)) (endSize v) n,
                   )
-                  (named-at v (hasInitiator v) refl n)
               | no n ↦
                   rw (
                     eq-eqb (getD file at 0) 0x39 (code-at ∙ c),
@@ -157,3 +157,13 @@ module _ (file spans : List ℕ) (stop : ℕ) (tail : List ℕ) (at : ℕ) (e : 
             ]
         | no c ↦ rw (ne-eqb (getD file at 0) 0x39 (λ q. c (sym code-at ∙ q)), ne-eqb (e .code) 0x39 c) (and-false (leb (at + (1 + endSize v)) stop))
       ]
+
+  pub right-at : (v : Version) → rightAt v file spans stop at ≡ (isEnd v e && not (hasInitiator v && initiatorWrong (getD (e .payload) 1 0)))
+  unfolding rightAt isEnd
+  right-at v = go (isEnd v e) refl
+    where
+      go : (b : Bool) → isEnd v e ≡ b → (endHere v file spans stop at && initiatorAt v file at) ≡ (b && not (hasInitiator v && initiatorWrong (getD (e .payload) 1 0)))
+      go true q =
+          let (c, n) = both (eqb (e .code) 0x39) (eqb (length (e .payload)) (endSize v)) q in
+          rw (end-stands v ∙ q) (named-at v (hasInitiator v) refl (eqb-true (length (e .payload)) (endSize v) n))
+      go false q = rw (end-stands v ∙ q)

@@ -5,8 +5,8 @@ use mathlib.Core.Bool.{cond}
 use mathlib.Core.List.{List, [], _∷_}
 use lib.Dec.{eqb}
 use lib.ListN.{getD}
+use Rattle.format.specs.Version.{hasInitiator, hasPlacements}
 use Rattle.format.specs.declared.version.Version.{Version}
-use Rattle.ending.specs.End.{hasInitiator, hasPlacements}
 use Rattle.game.specs.declared.end.End.{End}
 
 -- a placement: FF is none
@@ -35,7 +35,3 @@ placementsIn v p = cond (hasPlacements v) (ofFour valueBy p) fourZeros
 
 unfoldable pub endIn : Version → List ℕ → End
 endIn v p = record { given = 1; method = getD p 0 0; initiator = initiatorIn v p; placed = placedIn v p; placements = placementsIn v p }
-
--- no end
-abbrev pub noEnd : End
-noEnd = record { given = 0; method = 0; initiator = 0; placed = fourZeros; placements = fourZeros }

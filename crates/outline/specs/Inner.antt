@@ -8,11 +8,11 @@ use lib.Dec.{ltb, leb, eqb}
 use lib.ListN.{length, getD}
 use Rattle.wire.specs.Wire.{number, part}
 use Rattle.format.specs.Event.{codeOf}
-use Rattle.format.specs.Version.{gteOf}
+use Rattle.format.specs.Version.{hasInitiator, hasCodes}
 use Rattle.format.specs.declared.event.Event.the-variants.{GameEnd, GeckoCodes, MessageSplitter}
 use Rattle.format.specs.declared.version.Version.{Version}
 use Rattle.layout.specs.Payloads.{endSize}
-use Rattle.ending.specs.End.{hasInitiator, initiatorWrong}
+use Rattle.ending.specs.End.{initiatorWrong}
 use Rattle.outline.specs.declared.answer.Codes.{Codes}
 use Rattle.outline.specs.declared.answer.Codes.the-variants as codes
 use Rattle.outline.specs.declared.answer.Ends.{Ends}
@@ -46,7 +46,7 @@ module _ (file spans : List ℕ) (stop at : ℕ) where
 module _ (v : Version) (file spans : List ℕ) (stop : ℕ) where
   -- it is the last
   unfoldable pub lastAt : ℕ → Bool
-  lastAt at = blockAt file spans stop at && (eqb (flagAt file at) 1 && (gteOf v 3 3 && (ltb 0 (usedAt file at) && leb (usedAt file at) 512)))
+  lastAt at = blockAt file spans stop at && (eqb (flagAt file at) 1 && (hasCodes v && (ltb 0 (usedAt file at) && leb (usedAt file at) 512)))
 
   -- the last block, after n full ones
   unfoldable pub lastBlock : ℕ → ℕ → Codes
@@ -73,12 +73,18 @@ unfoldable pub sameRun : List ℕ → ℕ → ℕ → ℕ → Bool
 sameRun file a b zero = true
 sameRun file a b (suc n) = eqb (getD file a 0) (getD file b 0) && sameRun file (a + 1) (b + 1) n
 
+-- how many bytes an end has, its code included
+abbrev pub endSpan : Version → ℕ
+endSpan v = 1 + endSize v
+
 module _ (v : Version) (file spans : List ℕ) (stop : ℕ) where
-  -- an end of the version's size stands whole before stop, with an initiator that it may name
+  -- an end of the version's size stands whole before stop
+  unfoldable pub endHere : ℕ → Bool
+  endHere at = leb (at + endSpan v) stop && (eqb (getD file at 0) (codeOf GameEnd) && eqb (getD spans (codeOf GameEnd) 0) (endSpan v))
+
+  -- and names an initiator that it may name
   unfoldable pub rightAt : ℕ → Bool
-  rightAt at =
-      leb (at + (1 + endSize v)) stop
-      && (eqb (getD file at 0) (codeOf GameEnd) && (eqb (getD spans (codeOf GameEnd) 0) (1 + endSize v) && initiatorAt v file at))
+  rightAt at = endHere at && initiatorAt v file at
 
   -- a second end, like the first, fills the rest
   unfoldable pub secondAt : ℕ → ℕ → Bool

@@ -4,6 +4,8 @@ ghost use mathlib.Core.Bool.{true};
 ghost use Prim.Native.Nat.{_+_, _*_, _≤_};
 ghost use Rattle.outline.specs.Inner.{Within, blockAt, fullAt, lastAt, usedAt, lastBlock};
 use super::answer::Codes;
+use format::event::GECKO_CODES;
+use format::event::MESSAGE_SPLITTER;
 use format::version::Version;
 
 // Whether a block stands whole before stop.
@@ -14,13 +16,13 @@ fn is_block(file: &[u8], spans: &[u32], at: usize, stop: usize) -> bool
     if stop - at < 517 {
         return false;
     }
-    if file[at] != 0x10 {
+    if file[at] != MESSAGE_SPLITTER {
         return false;
     }
     if spans[0x10] != 517 {
         return false;
     }
-    file[at + 515] == 0x3D
+    file[at + 515] == GECKO_CODES
 }
 
 // Whether it is a block of 512 codes that others follow.
@@ -44,7 +46,7 @@ fn is_last(file: &[u8], spans: &[u32], v: Version, at: usize, stop: usize) -> bo
 {
     if is_block(file, spans, at, stop) {
         if file[at + 516] == 1 {
-            if v.gte(3, 3) {
+            if v.has_codes() {
                 let used = wire::get_be(file, at + 513, 2);
                 if 0 < used {
                     return used <= 512;

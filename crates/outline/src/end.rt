@@ -6,8 +6,10 @@ ghost use lib.ListN.{length};
 ghost use Rattle.wire.specs.Wire.{part};
 ghost use Rattle.layout.specs.Payloads.{endSize};
 ghost use Rattle.outline.specs.End.{markBy, valueBy, initiatorIn, placedIn, placementsIn};
-ghost use Rattle.outline.specs.Inner.{Within, initiatorAt, rightAt, sameRun, secondAt};
+ghost use Rattle.outline.specs.Inner.{Within, initiatorAt, endHere, rightAt, sameRun, secondAt};
+use format::event::GAME_END;
 use format::version::Version;
+use frame_scan::event::span_of;
 use layout::payloads::end_size;
 
 // Whether the end names an initiator from -1 to 3, where the version names one.
@@ -15,7 +17,7 @@ fn initiator_right(file: &[u8], v: Version, at: usize) -> bool
     requires { ⌜ at + (1 + endSize v) ≤ length (now file) ⌝ }
     ensures { λ r. ⌜ r ≡ initiatorAt v (now (file .entry)) at ⌝ }
 {
-    if v.gte(2, 0) {
+    if v.has_initiator() {
         let initiator = file[at + 2];
         if initiator <= 3 {
             return true;
@@ -25,22 +27,30 @@ fn initiator_right(file: &[u8], v: Version, at: usize) -> bool
     true
 }
 
-// Whether an end of the version's size stands whole before stop, with an initiator that it may name.
-pub fn is_right(file: &[u8], spans: &[u32], v: Version, at: usize, stop: usize) -> bool
+// Whether an end of the version's size stands whole before stop.
+pub fn is_end(file: &[u8], spans: &[u32], v: Version, at: usize, stop: usize) -> bool
     requires { ⌜ Within (now file) (now spans) stop at ⌝ }
-    ensures { λ r. ⌜ (r ≡ rightAt v (now (file .entry)) (now (spans .entry)) stop at) × (r ≡ true → at + (1 + endSize v) ≤ stop) ⌝ }
+    ensures { λ r. ⌜ (r ≡ endHere v (now (file .entry)) (now (spans .entry)) stop at) × (r ≡ true → at + (1 + endSize v) ≤ stop) ⌝ }
 {
     let n = 1 + end_size(v);
     if stop - at < n {
         return false;
     }
-    if file[at] != 0x39 {
+    if file[at] != GAME_END {
         return false;
     }
-    if spans[0x39] as usize != n {
-        return false;
+    span_of(spans, GAME_END) == n
+}
+
+// Whether an end stands whole before stop that names an initiator it may name.
+pub fn is_right(file: &[u8], spans: &[u32], v: Version, at: usize, stop: usize) -> bool
+    requires { ⌜ Within (now file) (now spans) stop at ⌝ }
+    ensures { λ r. ⌜ (r ≡ rightAt v (now (file .entry)) (now (spans .entry)) stop at) × (r ≡ true → at + (1 + endSize v) ≤ stop) ⌝ }
+{
+    if is_end(file, spans, v, at, stop) {
+        return initiator_right(file, v, at);
     }
-    initiator_right(file, v, at)
+    false
 }
 
 // Whether n bytes at one place are those at another.
@@ -107,7 +117,7 @@ pub fn initiator_in(file: &[u8], at: usize, v: Version) -> u8
     requires { ⌜ at + endSize v ≤ length (now file) ⌝ }
     ensures { λ r. ⌜ r ≡ initiatorIn v (part (now (file .entry)) at (endSize v)) ⌝ }
 {
-    if v.gte(2, 0) {
+    if v.has_initiator() {
         return file[at + 1];
     }
     255
@@ -118,7 +128,7 @@ pub fn placed_in(file: &[u8], at: usize, v: Version) -> [u8; 4]
     requires { ⌜ at + endSize v ≤ length (now file) ⌝ }
     ensures { λ r. ⌜ r ≡ placedIn v (part (now (file .entry)) at (endSize v)) ⌝ }
 {
-    if v.gte(3, 13) {
+    if v.has_placements() {
         return [
             mark(file[at + 2]),
             mark(file[at + 3]),
@@ -133,7 +143,7 @@ pub fn placements_in(file: &[u8], at: usize, v: Version) -> [u8; 4]
     requires { ⌜ at + endSize v ≤ length (now file) ⌝ }
     ensures { λ r. ⌜ r ≡ placementsIn v (part (now (file .entry)) at (endSize v)) ⌝ }
 {
-    if v.gte(3, 13) {
+    if v.has_placements() {
         return [
             value(file[at + 2]),
             value(file[at + 3]),

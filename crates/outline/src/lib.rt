@@ -3,6 +3,8 @@ ghost use mathlib.Core.Path.{_≡_};
 ghost use Prim.Native.Nat.{suc, _+_, _*_, _≤_};
 ghost use lib.ListN.{length, getD};
 ghost use Rattle.wire.specs.Wire.{splice, part, ranged};
+ghost use Rattle.format.specs.Event.{codeOf};
+ghost use Rattle.format.specs.declared.event.Event.the-variants.{GeckoCodes};
 ghost use Rattle.layout.specs.Payloads.{endSize};
 ghost use Rattle.outline.specs.End.{endIn};
 ghost use Rattle.outline.specs.Listed.{listedRight};
@@ -21,6 +23,7 @@ use end::is_right;
 use end::is_second;
 use end::placed_in;
 use end::placements_in;
+use format::event::MESSAGE_SPLITTER;
 use format::version::Version;
 use game::end::End;
 use layout::payloads::end_size;
@@ -45,7 +48,7 @@ pub fn codes(file: &[u8], spans: &[u32], v: Version, first: usize, stop: usize) 
     ensures { λ r. ⌜ r ≡ codesAt v (now (file .entry)) (now (spans .entry)) first stop ⌝ }
 {
     if first < stop {
-        if file[first] == 0x10 {
+        if file[first] == MESSAGE_SPLITTER {
             return blocks(file, spans, v, first, stop);
         }
     }
@@ -107,9 +110,9 @@ pub fn end_in(file: &[u8], at: usize, v: Version) -> End
 // Whether codes are listed as the blocks say: from 3.3 their size is the actual size's two low bytes, and unlisted there are no blocks.
 pub fn listed_right(spans: &[u32], v: Version, blocks: usize, actual: usize) -> bool
     requires { ⌜ length (now spans) ≡ 256 ⌝ }
-    ensures { λ r. ⌜ r ≡ listedRight v (getD (now (spans .entry)) 0x3D 0) blocks actual ⌝ }
+    ensures { λ r. ⌜ r ≡ listedRight v (getD (now (spans .entry)) (codeOf GeckoCodes) 0) blocks actual ⌝ }
 {
-    if v.gte(3, 3) {
+    if v.has_codes() {
         let span = spans[0x3D] as usize;
         if span == 0 {
             return blocks == 0;

@@ -10,7 +10,7 @@ use lib.ListN.{length, take, drop, getD, replicate, drop-of-length-le}
 use lib.Seq.{drop-cons}
 use Rattle.wire.specs.Wire.{be, splice, keep, Wrote}
 use Rattle.wire.proofs.Laws.{length-splice}
-use Rattle.wire.proofs.Writers.{wrote-then, wrote-as}
+use Rattle.wire.proofs.Writers.{wrote-then}
 use Rattle.patch.specs.Patch.{Patch, patch, patched}
 use Rattle.patch.specs.Field.{text, zeroFilled}
 use Rattle.patch.specs.Inner.{Patched, numberPatches, Fit}

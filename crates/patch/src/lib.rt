@@ -49,7 +49,7 @@ fn put_first(block: &mut [u8], at: usize, src: &[u8], n: usize) -> usize
     wire::put_bytes(block, at, &src[..n])
 }
 
-// So many zeros.
+// n zeros, at most 51, at a place of the block.
 pub fn put_zeros(block: &mut [u8], at: usize, n: usize) -> usize
     requires { ⌜ (n ≤ 51) × (at + n ≤ length (now block)) ⌝ }
     ensures { λ r. ⌜ Wrote (now (block .entry)) (now (block .exit)) at r (replicate n 0) ⌝ }

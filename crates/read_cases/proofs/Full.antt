@@ -8,14 +8,14 @@ use mathlib.Core.List.{List, [], _∷_, _++_}
 use native.Mathlib.Omega.{arith}
 use lib.Dec.{lit<, lit≤}
 use lib.ListN.{replicate}
-use Rattle.wire.specs.Wire.{be, more, part, ranged, keep, tabulate}
-use Rattle.format.specs.Refusal.{lowest, oneOf}
-use Rattle.format.specs.File.{entriesBytes, tableBytes, eventsBytes, fileOf}
-use Rattle.format.specs.Version.{version, above, gteOf, acceptedOf}
+use Rattle.wire.specs.Wire.{more, ranged, keep}
+use Rattle.format.specs.Refusal.{oneOf}
+use Rattle.format.specs.File.{fileOf}
+use Rattle.format.specs.Version.{version, above, gteOf}
 use Rattle.format.specs.declared.version.Version.{Version}
 use Rattle.layout.specs.Columns.{hasFamily, columnsOf, chosen, sum}
-use Rattle.layout.specs.Payloads.{endSize, listed, payloadSize, entriesOf}
-use Rattle.game.specs.Frames.{noPort, portsOf, portSlots, portBytes, slotsFrom, slotsOf}
+use Rattle.layout.specs.Payloads.{endSize, listed, entriesOf}
+use Rattle.game.specs.Frames.{noPort}
 use Rattle.game.specs.Stores.{lent, cells, offsets}
 use Rattle.frames.specs.Judge.{tooMany}
 use Rattle.start.specs.Length.{reached, lengthOf}
@@ -26,13 +26,11 @@ use Rattle.grammar.specs.Readable.{Alike, seatType, Readable}
 use Rattle.columns.specs.Columns.{holds, everIn, playersAt, portColumns, rowsThere, framesRead, cellColumns, slotRow, slotsCells, totals, offsetsRead, bitsFrom, presenceBytes, slotsPresence, lentRead}
 use Rattle.outline.specs.Listed.{listedRight, codesBytes}
 use Rattle.outline.specs.End.{markBy, valueBy, initiatorIn, placedIn, placementsIn, endIn}
-use Rattle.head.specs.Table.{startsWith, stopOf, allPresent, entriesIn, tableOf, spanOf, codeTwice, tableMissing, unsigned, untabled, headRefusal}
-use Rattle.head.specs.Step.{eventIn, stepIn, stepOf}
-use Rattle.de.specs.Walk.{run, walkOf}
-use Rattle.de.specs.Cut.{eventsRead}
-use Rattle.found.specs.Found.{opensWrong, versionSaid, earlyRefusal, Found, tooBig}
+use Rattle.found.specs.Found.{earlyRefusal, Found, tooBig}
 use Rattle.reading.specs.Game.{bare, tailKind, gameRead, kept, keptRead}
 use Rattle.read_cases.proofs.Files.{brace, seated}
+use Rattle.found.proofs.Opens.{opens-early}
+use Rattle.frames.proofs.Opens.{opens-slots, opens-table}
 
 abbrev pub newest : Version
 newest = version 3 18 0
@@ -85,7 +83,7 @@ abbrev file : List ℕ
 file = fileOf (entriesOf newest 760 true 9) (eventsOf newest full) brace
 
 not-refused : earlyRefusal file ≡ 0
-unfolding fileOf tableBytes entriesBytes eventsBytes be part more lowest startsWith stopOf allPresent entriesIn tableOf spanOf codeTwice tableMissing unsigned untabled headRefusal eventIn stepIn stepOf run walkOf eventsRead opensWrong versionSaid earlyRefusal acceptedOf above entriesOf listed payloadSize endSize hasFamily gteOf columnsOf chosen sum codesEvents framesEvents frameEvents eventsOf keep
+unfolding opens-early opens-table codesEvents framesEvents frameEvents eventsOf
 not-refused = refl
 
 good-player : (follower seed : ℕ) → follower ≤ 1 → GoodPlayer newest (player follower seed)
@@ -153,7 +151,7 @@ readable = record {
 }
 
 found : Found file
-unfolding fileOf tableBytes entriesBytes eventsBytes be part more lowest startsWith stopOf allPresent entriesIn tableOf spanOf codeTwice tableMissing unsigned untabled headRefusal eventIn stepIn stepOf run walkOf eventsRead opensWrong versionSaid earlyRefusal acceptedOf above entriesOf listed payloadSize endSize hasFamily gteOf columnsOf chosen sum codesEvents framesEvents frameEvents eventsOf keep listedRight usedIn
+unfolding opens-early opens-table codesEvents framesEvents frameEvents eventsOf listedRight usedIn
 found = record { replay = full; whole = refl; events-are = refl; readable = readable; listed = refl }
 
 small-enough : tooBig newest full ≡ false
@@ -179,15 +177,15 @@ pub stores : keptRead newest full
     (offsets (0 ∷ 1 ∷ 1 ∷ []) (0 ∷ 1 ∷ 1 ∷ []) (0 ∷ 1 ∷ 1 ∷ []) (0 ∷ 1 ∷ 1 ∷ []))
     (3 ∷ 1 ∷ []))
     (replicate 512 0xC2)
-unfolding framesRead rowsThere portColumns ranged everIn holds keep hasFamily gteOf above lentRead codesBytes playersAt cellColumns columnsOf chosen more slotRow slotsCells slotsOf slotsFrom portsOf portSlots portBytes tabulate offsetsRead totals slotsPresence presenceBytes bitsFrom
+unfolding opens-slots framesRead rowsThere portColumns ranged everIn holds keep hasFamily gteOf above lentRead codesBytes playersAt cellColumns columnsOf chosen more slotRow slotsCells offsetsRead totals slotsPresence presenceBytes bitsFrom
 stores = refl
 
 end : gameRead file full .end ≡ record { given = 1; method = 2; initiator = 1; placed = 0 ∷ 1 ∷ 0 ∷ 0 ∷ []; placements = 0 ∷ 1 ∷ 0 ∷ 0 ∷ [] }
-unfolding fileOf tableBytes entriesBytes eventsBytes be part more lowest startsWith stopOf allPresent entriesIn tableOf spanOf codeTwice tableMissing unsigned untabled headRefusal eventIn stepIn stepOf run walkOf eventsRead opensWrong versionSaid earlyRefusal acceptedOf above entriesOf listed payloadSize endSize hasFamily gteOf columnsOf chosen sum codesEvents framesEvents frameEvents eventsOf keep endIn initiatorIn placedIn placementsIn markBy valueBy
+unfolding opens-early opens-table codesEvents framesEvents frameEvents eventsOf endIn initiatorIn placedIn placementsIn markBy valueBy
 end = refl
 
 -- the end twice, codes of 9 bytes, no metadata
 marks : gameRead file full .«double_end» ∷ gameRead file full .«codes_given» ∷ gameRead file full .«metadata_given» ∷ gameRead file full .«actual_size» ∷ []
     ≡ 1 ∷ 1 ∷ 0 ∷ 9 ∷ []
-unfolding fileOf tableBytes entriesBytes eventsBytes be part more lowest startsWith stopOf allPresent entriesIn tableOf spanOf codeTwice tableMissing unsigned untabled headRefusal eventIn stepIn stepOf run walkOf eventsRead opensWrong versionSaid earlyRefusal acceptedOf above entriesOf listed payloadSize endSize hasFamily gteOf columnsOf chosen sum codesEvents framesEvents frameEvents eventsOf keep usedIn tailKind bare
+unfolding opens-early opens-table codesEvents framesEvents frameEvents eventsOf usedIn tailKind bare
 marks = refl

@@ -5,25 +5,15 @@ use mathlib.Core.Path.{_≡_, refl}
 use mathlib.Core.Bool.{true}
 use mathlib.Core.List.{List, [], _∷_, _++_}
 use lib.ListN.{replicate}
-use Rattle.wire.specs.Wire.{be, more, part}
-use Rattle.format.specs.Refusal.{lowest}
-use Rattle.format.specs.File.{Entry, Ev, entriesBytes, tableBytes, eventsBytes, fileOf}
-use Rattle.format.specs.Version.{version, above, gteOf, acceptedOf}
-use Rattle.layout.specs.Columns.{hasFamily, columnsOf, chosen, sum}
-use Rattle.layout.specs.Payloads.{endSize}
+use Rattle.format.specs.File.{Entry, Ev, fileOf}
+use Rattle.format.specs.Version.{version}
 use Rattle.layout.specs.declared.columns.Family.the-variants.{Pre, Post, FrameStart, Item, FrameEnd}
-use Rattle.start.specs.Length.{lengthOf, reached}
-use Rattle.head.specs.Table.{startsWith, stopOf, allPresent, entriesIn, tableOf, spanOf, codeTwice, tableMissing, unsigned, untabled, headRefusal}
-use Rattle.head.specs.Step.{eventIn, stepIn, stepOf}
-use Rattle.de.specs.Walk.{run, walkOf}
-use Rattle.de.specs.Cut.{eventsRead}
 use Rattle.grammar.specs.Productions.{startEvent, rowEvent}
-use Rattle.grammar.specs.WellFormed.{ascending, nobody, before, mayCome}
-use Rattle.grammar.specs.Machine.{familyOf, isNext, closed, inFrame, player, orderly, allowed, dueAfter, onFamily, rest}
-use Rattle.grammar.specs.Whole.{saysVersion, isStart, codesRest, isEnd, areEnds, onSome, isReplay}
-use Rattle.found.specs.Found.{opensWrong, versionSaid, earlyRefusal}
+use Rattle.grammar.specs.WellFormed.{ascending}
+use Rattle.grammar.specs.Whole.{isReplay}
 use Rattle.read_cases.proofs.Files.{Nineteen, entry, brace, seated}
 use Rattle.read_cases.proofs.Taken.{areBytes, haveBytes, no-replay}
+use Rattle.found.proofs.Opens.{opens-early, opens-machine}
 
 -- a start of 418 bytes, a Pre of 63, a Post of 52, a FrameStart of 8, an Item of 37, a FrameEnd of 4
 abbrev table : List Entry
@@ -52,7 +42,7 @@ young es = fileOf table (startEvent block ∷ es) brace
 
 -- in their order they are a replay's, so that in what follows the order is at fault
 right-order : isReplay (version 3 0 0) ascending (startEvent block ∷ starts 5 ∷ pre 5 ∷ item 5 ∷ post 5 ∷ ends 5 ∷ []) ≡ true
-unfolding fileOf tableBytes entriesBytes eventsBytes be part more lowest startsWith stopOf allPresent entriesIn tableOf spanOf codeTwice tableMissing unsigned untabled headRefusal eventIn stepIn stepOf run walkOf eventsRead opensWrong versionSaid earlyRefusal acceptedOf above areBytes haveBytes isReplay isStart saysVersion codesRest onSome isEnd areEnds rest onFamily familyOf allowed orderly closed inFrame player nobody isNext dueAfter mayCome before hasFamily gteOf lengthOf reached endSize columnsOf chosen sum
+unfolding opens-early opens-machine areBytes haveBytes
 right-order = refl
 
 -- no FrameStart before the players; one and nothing behind it; two of them; a FrameEnd alone
@@ -61,7 +51,7 @@ starts-wrong :
     × Nineteen (young (starts 5 ∷ []))
     × Nineteen (young (starts 5 ∷ starts 5 ∷ ends 5 ∷ []))
     × Nineteen (young (ends 5 ∷ []))
-unfolding fileOf tableBytes entriesBytes eventsBytes be part more lowest startsWith stopOf allPresent entriesIn tableOf spanOf codeTwice tableMissing unsigned untabled headRefusal eventIn stepIn stepOf run walkOf eventsRead opensWrong versionSaid earlyRefusal acceptedOf above areBytes haveBytes isReplay isStart saysVersion codesRest onSome isEnd areEnds rest onFamily familyOf allowed orderly closed inFrame player nobody isNext dueAfter mayCome before hasFamily gteOf lengthOf reached endSize columnsOf chosen sum
+unfolding opens-early opens-machine areBytes haveBytes
 starts-wrong = (
   (refl, no-replay (young (pre 5 ∷ post 5 ∷ ends 5 ∷ [])) (startEvent block ∷ pre 5 ∷ post 5 ∷ ends 5 ∷ []) refl refl refl),
   (refl, no-replay (young (starts 5 ∷ [])) (startEvent block ∷ starts 5 ∷ []) refl refl refl),
@@ -73,7 +63,7 @@ starts-wrong = (
 items-wrong :
     Nineteen (young (starts 5 ∷ item 5 ∷ pre 5 ∷ post 5 ∷ ends 5 ∷ []))
     × Nineteen (young (starts 5 ∷ pre 5 ∷ post 5 ∷ item 5 ∷ ends 5 ∷ []))
-unfolding fileOf tableBytes entriesBytes eventsBytes be part more lowest startsWith stopOf allPresent entriesIn tableOf spanOf codeTwice tableMissing unsigned untabled headRefusal eventIn stepIn stepOf run walkOf eventsRead opensWrong versionSaid earlyRefusal acceptedOf above areBytes haveBytes isReplay isStart saysVersion codesRest onSome isEnd areEnds rest onFamily familyOf allowed orderly closed inFrame player nobody isNext dueAfter mayCome before hasFamily gteOf lengthOf reached endSize columnsOf chosen sum
+unfolding opens-early opens-machine areBytes haveBytes
 items-wrong = (
   (refl, no-replay (young (starts 5 ∷ item 5 ∷ pre 5 ∷ post 5 ∷ ends 5 ∷ [])) (startEvent block ∷ starts 5 ∷ item 5 ∷ pre 5 ∷ post 5 ∷ ends 5 ∷ []) refl refl refl),
   (refl, no-replay (young (starts 5 ∷ pre 5 ∷ post 5 ∷ item 5 ∷ ends 5 ∷ [])) (startEvent block ∷ starts 5 ∷ pre 5 ∷ post 5 ∷ item 5 ∷ ends 5 ∷ []) refl refl refl),
@@ -84,7 +74,7 @@ ids-wrong :
     Nineteen (young (starts 5 ∷ item 6 ∷ ends 5 ∷ []))
     × Nineteen (young (starts 5 ∷ ends 6 ∷ []))
     × Nineteen (young (starts 5 ∷ pre 5 ∷ post 5 ∷ starts 6 ∷ ends 6 ∷ []))
-unfolding fileOf tableBytes entriesBytes eventsBytes be part more lowest startsWith stopOf allPresent entriesIn tableOf spanOf codeTwice tableMissing unsigned untabled headRefusal eventIn stepIn stepOf run walkOf eventsRead opensWrong versionSaid earlyRefusal acceptedOf above areBytes haveBytes isReplay isStart saysVersion codesRest onSome isEnd areEnds rest onFamily familyOf allowed orderly closed inFrame player nobody isNext dueAfter mayCome before hasFamily gteOf lengthOf reached endSize columnsOf chosen sum
+unfolding opens-early opens-machine areBytes haveBytes
 ids-wrong = (
   (refl, no-replay (young (starts 5 ∷ item 6 ∷ ends 5 ∷ [])) (startEvent block ∷ starts 5 ∷ item 6 ∷ ends 5 ∷ []) refl refl refl),
   (refl, no-replay (young (starts 5 ∷ ends 6 ∷ [])) (startEvent block ∷ starts 5 ∷ ends 6 ∷ []) refl refl refl),

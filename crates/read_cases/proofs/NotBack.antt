@@ -1,32 +1,27 @@
 -- 19 because a well-formed replay cannot be read back, a file for each reason: seat types, ids before 2.2, ends. None is refused before.
 -- Assumes nothing.
-use Prim.Native.Nat.{ℕ, _≤_, _<_}
+use Prim.Native.Nat.{ℕ, _≤_}
 use mathlib.Core.Path.{_≡_, refl, sym}
 use mathlib.Core.Bool.{true, false}
 use mathlib.Core.List.{List, [], _∷_, _++_, head-eq-of-cons-eq}
 use native.Mathlib.Omega.{arith}
 use lib.Dec.{lit<, lit≤}
 use lib.ListN.{replicate}
-use Rattle.wire.specs.Wire.{be, more, part, keep}
-use Rattle.format.specs.Refusal.{lowest}
-use Rattle.format.specs.File.{entriesBytes, tableBytes, eventsBytes, fileOf}
-use Rattle.format.specs.Version.{version, above, gteOf, acceptedOf}
+use Rattle.wire.specs.Wire.{keep}
+use Rattle.format.specs.File.{fileOf}
+use Rattle.format.specs.Version.{version, above, gteOf}
 use Rattle.format.proofs.Versions.{no-way}
 use Rattle.layout.specs.Columns.{hasFamily}
 use Rattle.layout.specs.Payloads.{endSize}
 use Rattle.start.specs.Length.{lengthOf, reached}
 use Rattle.ending.specs.End.{initiatorWrong}
-use Rattle.head.specs.Table.{startsWith, stopOf, allPresent, entriesIn, tableOf, spanOf, codeTwice, tableMissing, unsigned, untabled, headRefusal}
-use Rattle.head.specs.Step.{eventIn, stepIn, stepOf}
-use Rattle.de.specs.Walk.{run, walkOf}
-use Rattle.de.specs.Cut.{eventsRead}
 use Rattle.grammar.specs.Productions.{Replay, startEvent, preEvent, postEvent, endEvent, codesEvents, frameEvents, framesEvents, eventsOf}
 use Rattle.grammar.specs.WellFormed.{Each, ascending, GoodCodes, WellFormed}
 use Rattle.grammar.specs.Readable.{Changing, Alike}
-use Rattle.found.specs.Found.{opensWrong, versionSaid, earlyRefusal}
 use Rattle.read_cases.proofs.Files.{Nineteen, entry, table, brace, seated, block, over, old}
 use Rattle.read_cases.proofs.Taken.{can-be-read}
 use Rattle.read_cases.proofs.OneFrame.{oneSeat, one, frame, good-frame}
+use Rattle.found.proofs.Opens.{opens-early}
 
 -- ---- a seat type of 4
 
@@ -41,7 +36,7 @@ unfolding Each GoodCodes lengthOf reached gteOf above
 fourth-well = record { version = refl; block = lit≤ tt; short = lit< tt; codes = tt; frames = tt; few = lit≤ tt; ends = tt }
 
 seat-four : Nineteen fourth-file
-unfolding fileOf tableBytes entriesBytes eventsBytes be part more lowest startsWith stopOf allPresent entriesIn tableOf spanOf codeTwice tableMissing unsigned untabled headRefusal eventIn stepIn stepOf run walkOf eventsRead opensWrong versionSaid earlyRefusal acceptedOf above codesEvents framesEvents frameEvents eventsOf hasFamily gteOf keep
+unfolding opens-early codesEvents framesEvents frameEvents eventsOf hasFamily gteOf keep
 seat-four = (
   refl,
   λ x.
@@ -60,7 +55,7 @@ unfolding Each GoodCodes lengthOf reached endSize gteOf above
 unlike-well = record { version = refl; block = lit≤ tt; short = lit< tt; codes = tt; frames = tt; few = lit≤ tt; ends = (refl, (refl, tt)) }
 
 ends-unlike : Nineteen (old (over 1 ∷ over 2 ∷ []))
-unfolding fileOf tableBytes entriesBytes eventsBytes be part more lowest startsWith stopOf allPresent entriesIn tableOf spanOf codeTwice tableMissing unsigned untabled headRefusal eventIn stepIn stepOf run walkOf eventsRead opensWrong versionSaid earlyRefusal acceptedOf above codesEvents framesEvents frameEvents eventsOf hasFamily gteOf keep Alike
+unfolding opens-early codesEvents framesEvents frameEvents eventsOf hasFamily gteOf keep Alike
 ends-unlike = (
   refl,
   λ x.
@@ -82,7 +77,7 @@ unfolding Each GoodCodes lengthOf reached endSize gteOf above
 named-well = record { version = refl; block = lit≤ tt; short = lit< tt; codes = tt; frames = tt; few = lit≤ tt; ends = (refl, tt) }
 
 initiator-four : Nineteen named-file
-unfolding fileOf tableBytes entriesBytes eventsBytes be part more lowest startsWith stopOf allPresent entriesIn tableOf spanOf codeTwice tableMissing unsigned untabled headRefusal eventIn stepIn stepOf run walkOf eventsRead opensWrong versionSaid earlyRefusal acceptedOf above codesEvents framesEvents frameEvents eventsOf hasFamily gteOf keep Each initiatorWrong
+unfolding opens-early codesEvents framesEvents frameEvents eventsOf hasFamily gteOf keep Each initiatorWrong
 initiator-four = (refl, λ x. let r = can-be-read named-file (version 2 0 0) named refl named-well refl x in let n : true ≡ false = r .initiators refl .0 in no-way (sym n))
 
 -- ---- before 2.2, two neighbouring frames of one id
@@ -100,5 +95,5 @@ unfolding Each GoodCodes lengthOf reached gteOf above
 again-well = record { version = refl; block = lit≤ tt; short = lit< tt; codes = tt; frames = (good-frame, (good-frame, tt)); few = lit≤ tt; ends = tt }
 
 same-ids : Nineteen again-file
-unfolding fileOf tableBytes entriesBytes eventsBytes be part more lowest startsWith stopOf allPresent entriesIn tableOf spanOf codeTwice tableMissing unsigned untabled headRefusal eventIn stepIn stepOf run walkOf eventsRead opensWrong versionSaid earlyRefusal acceptedOf above codesEvents framesEvents frameEvents eventsOf hasFamily gteOf keep Changing
+unfolding opens-early codesEvents framesEvents frameEvents eventsOf hasFamily gteOf keep Changing
 same-ids = (refl, λ x. can-be-read again-file (version 0 1 0) again refl again-well refl x .changing refl .0 refl)

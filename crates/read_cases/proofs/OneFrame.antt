@@ -7,13 +7,13 @@ use mathlib.Core.List.{List, [], _∷_, map}
 use native.Mathlib.Omega.{arith}
 use lib.Dec.{lit<, lit≤}
 use lib.ListN.{replicate}
-use Rattle.wire.specs.Wire.{be, more, part, ranged, keep, tabulate}
-use Rattle.format.specs.Refusal.{lowest, oneOf}
+use Rattle.wire.specs.Wire.{be, more, part, ranged, keep}
+use Rattle.format.specs.Refusal.{oneOf}
 use Rattle.format.specs.File.{entriesBytes, tableBytes, eventsBytes, fileOf}
-use Rattle.format.specs.Version.{version, above, gteOf, acceptedOf}
+use Rattle.format.specs.Version.{version, above, gteOf}
 use Rattle.layout.specs.Columns.{hasFamily, columnsOf, chosen, sum}
 use Rattle.layout.specs.Payloads.{endSize}
-use Rattle.game.specs.Frames.{noPort, portsOf, portSlots, portBytes, slotsFrom, slotsOf}
+use Rattle.game.specs.Frames.{noPort}
 use Rattle.game.specs.Stores.{lent, cells, offsets}
 use Rattle.game.specs.declared.start.Seat.{Seat}
 use Rattle.frames.specs.Judge.{tooMany}
@@ -26,13 +26,14 @@ use Rattle.grammar.specs.Readable.{Changing, Alike, seatType, Readable}
 use Rattle.columns.specs.Columns.{holds, everIn, playersAt, portColumns, rowsThere, framesRead, cellColumns, slotRow, slotsCells, offsetsRead, bitsFrom, presenceBytes, slotsPresence, lentRead}
 use Rattle.outline.specs.Listed.{listedRight, codesBytes}
 use Rattle.outline.specs.End.{initiatorIn, placedIn, placementsIn, endIn, fourZeros}
-use Rattle.head.specs.Table.{startsWith, stopOf, allPresent, entriesIn, tableOf, spanOf, codeTwice, tableMissing, unsigned, untabled, headRefusal}
-use Rattle.head.specs.Step.{eventIn, stepIn, stepOf}
-use Rattle.de.specs.Walk.{run, walkOf}
+use Rattle.head.specs.Table.{startsWith, stopOf, entriesIn, tableOf}
 use Rattle.de.specs.Cut.{eventsRead}
-use Rattle.found.specs.Found.{opensWrong, versionSaid, versionOf, earlyRefusal, Found, tooBig}
+use Rattle.found.specs.Found.{versionSaid, versionOf, earlyRefusal, Found, tooBig}
 use Rattle.reading.specs.Game.{bare, hasBody, tailKind, placesIn, gameRead, kept, keptRead, lengthsOf}
 use Rattle.read_cases.proofs.Files.{table, seated}
+use Rattle.de.proofs.Opens.{opens-steps}
+use Rattle.found.proofs.Opens.{opens-early}
+use Rattle.frames.proofs.Opens.{opens-slots}
 
 -- port 0 has a human player
 abbrev pub oneSeat : List ℕ
@@ -54,11 +55,11 @@ abbrev pub file : List ℕ
 file = fileOf table (startEvent oneSeat ∷ preEvent 0xffffff85 one ∷ postEvent 0xffffff85 one ∷ endEvent (2 ∷ []) ∷ []) (tailOf true (0x61 ∷ 0x62 ∷ 0x63 ∷ []))
 
 pub not-refused : earlyRefusal file ≡ 0
-unfolding fileOf tableBytes entriesBytes eventsBytes tailOf metadataOf keep be part more lowest startsWith stopOf allPresent entriesIn tableOf spanOf codeTwice tableMissing unsigned untabled headRefusal eventIn stepIn stepOf run walkOf eventsRead opensWrong versionSaid earlyRefusal acceptedOf above
+unfolding opens-early tailOf metadataOf keep
 not-refused = refl
 
 pub version-said : versionOf file ≡ version 0 1 0
-unfolding fileOf tableBytes entriesBytes eventsBytes tailOf metadataOf keep be part more lowest startsWith stopOf allPresent entriesIn tableOf spanOf codeTwice tableMissing unsigned untabled headRefusal eventIn stepIn stepOf run eventsRead versionSaid
+unfolding opens-steps tailOf metadataOf keep eventsRead versionSaid
 version-said = refl
 
 seats : (n : ℕ) → n < 4 → seatType oneSeat n ≤ 3
@@ -103,7 +104,7 @@ readable = record {
 
 -- the file holds that replay
 unfoldable pub found : Found file
-unfolding fileOf tableBytes entriesBytes eventsBytes tailOf metadataOf keep be part more lowest startsWith stopOf allPresent entriesIn tableOf spanOf codeTwice tableMissing unsigned untabled headRefusal eventIn stepIn stepOf run eventsRead versionSaid codesEvents framesEvents frameEvents eventsOf hasFamily listedRight gteOf above usedIn
+unfolding opens-steps tailOf metadataOf keep eventsRead versionSaid codesEvents framesEvents frameEvents eventsOf hasFamily listedRight gteOf above usedIn
 found = record { replay = played; whole = refl; events-are = refl; readable = readable; listed = refl }
 
 pub small-enough : tooBig (version 0 1 0) played ≡ false
@@ -123,7 +124,7 @@ frames = refl
 -- the stores: the id; Pre's 14 columns, the seed first; Post's 11, character and state first; no offsets before 3.0; presence with its lowest bit set
 pub stores : keptRead (version 0 1 0) played
     ≡ kept (lent (cells (0xffffff85 ∷ []) [] (7 ∷ replicate 13 0) (2 ∷ 14 ∷ replicate 9 0) [] [] [] [] []) (offsets [] [] [] []) (1 ∷ [])) []
-unfolding lentRead codesBytes framesRead rowsThere portColumns ranged everIn holds playersAt keep cellColumns columnsOf chosen gteOf above more slotRow slotsCells slotsOf slotsFrom portsOf portSlots portBytes tabulate offsetsRead hasFamily slotsPresence presenceBytes bitsFrom
+unfolding opens-slots lentRead codesBytes framesRead rowsThere portColumns ranged everIn holds playersAt keep cellColumns columnsOf chosen gteOf above more slotRow slotsCells offsetsRead hasFamily slotsPresence presenceBytes bitsFrom
 stores = refl
 
 -- so `measure` asks for 1 id, 14 cells of Pre, 11 of Post and 1 presence byte
@@ -158,11 +159,11 @@ seats-taken = refl
 
 -- the end's method is 2; before 2.0 nobody is named
 end : gameRead file played .end ≡ record { given = 1; method = 2; initiator = 0xFF; placed = fourZeros; placements = fourZeros }
-unfolding fileOf tableBytes entriesBytes eventsBytes tailOf metadataOf keep be part more lowest startsWith stopOf allPresent entriesIn tableOf spanOf codeTwice tableMissing unsigned untabled headRefusal eventIn stepIn stepOf run eventsRead versionSaid endIn initiatorIn placedIn placementsIn gteOf above
+unfolding opens-steps tailOf metadataOf keep eventsRead versionSaid endIn initiatorIn placedIn placementsIn gteOf above
 end = refl
 
 -- one end, no codes, metadata
 marks : gameRead file played .«double_end» ∷ gameRead file played .«codes_given» ∷ gameRead file played .«metadata_given» ∷ gameRead file played .«actual_size» ∷ []
     ≡ 0 ∷ 0 ∷ 1 ∷ 0 ∷ []
-unfolding fileOf tableBytes entriesBytes eventsBytes tailOf metadataOf keep be part more lowest startsWith stopOf allPresent entriesIn tableOf spanOf codeTwice tableMissing unsigned untabled headRefusal eventIn stepIn stepOf run eventsRead versionSaid gteOf above usedIn tailKind bare hasBody
+unfolding opens-steps tailOf metadataOf keep eventsRead versionSaid gteOf above usedIn tailKind bare hasBody
 marks = refl

@@ -8,13 +8,13 @@ use native.Mathlib.Omega.{arith}
 use lib.Dec.{lit<, lit≤}
 use lib.ListN.{replicate}
 use Rattle.wire.specs.Wire.{be, more, part, ranged, keep, tabulate}
-use Rattle.format.specs.Refusal.{lowest, oneOf}
+use Rattle.format.specs.Refusal.{oneOf}
 use Rattle.format.specs.File.{entriesBytes, tableBytes, eventsBytes, fileOf}
-use Rattle.format.specs.Version.{version, above, gteOf, acceptedOf}
+use Rattle.format.specs.Version.{version, above, gteOf}
 use Rattle.layout.specs.Columns.{hasFamily, columnsOf, chosen}
 use Rattle.game.specs.Frames.{noPort, portsOf, slotsFrom, slotsOf}
 use Rattle.game.specs.Stores.{lent, cells, offsets}
-use Rattle.game.specs.Zero.{noSeat}
+use Rattle.game.specs.Zero.{noSeat, noEnd}
 use Rattle.frames.specs.Judge.{tooMany}
 use Rattle.start.specs.Length.{reached, lengthOf}
 use Rattle.start_read.specs.Start.{seatIn, startIn}
@@ -23,14 +23,13 @@ use Rattle.grammar.specs.WellFormed.{Each, ascending, GoodCodes, WellFormed}
 use Rattle.grammar.specs.Readable.{Changing, Alike, seatType, Readable}
 use Rattle.columns.specs.Columns.{everIn, portColumns, rowsThere, framesRead, cellColumns, slotsCells, offsetsRead, slotsPresence, lentRead}
 use Rattle.outline.specs.Listed.{listedRight, codesBytes}
-use Rattle.outline.specs.End.{noEnd}
-use Rattle.head.specs.Table.{startsWith, stopOf, allPresent, entriesIn, tableOf, spanOf, codeTwice, tableMissing, unsigned, untabled, headRefusal}
-use Rattle.head.specs.Step.{eventIn, stepIn, stepOf}
-use Rattle.de.specs.Walk.{run, walkOf}
+use Rattle.head.specs.Table.{stopOf, entriesIn, tableOf}
 use Rattle.de.specs.Cut.{eventsRead}
-use Rattle.found.specs.Found.{opensWrong, versionSaid, versionOf, earlyRefusal, Found, tooBig}
+use Rattle.found.specs.Found.{versionSaid, versionOf, earlyRefusal, Found, tooBig}
 use Rattle.reading.specs.Game.{bare, tailKind, placesIn, gameRead, kept, keptRead}
 use Rattle.read_cases.proofs.Files.{block, old}
+use Rattle.de.proofs.Opens.{opens-steps}
+use Rattle.found.proofs.Opens.{opens-early}
 
 abbrev smallest : List ℕ
 smallest = old []
@@ -40,11 +39,11 @@ empty = record { block = block; codes = []; frames = []; ends = [] }
 
 -- it is not refused
 not-refused : earlyRefusal smallest ≡ 0
-unfolding fileOf tableBytes entriesBytes eventsBytes be part more lowest startsWith stopOf allPresent entriesIn tableOf spanOf codeTwice tableMissing unsigned untabled headRefusal eventIn stepIn stepOf run walkOf eventsRead opensWrong versionSaid earlyRefusal acceptedOf above
+unfolding opens-early
 not-refused = refl
 
 version-said : versionOf smallest ≡ version 0 1 0
-unfolding fileOf tableBytes entriesBytes eventsBytes be part more lowest startsWith stopOf allPresent entriesIn tableOf spanOf codeTwice tableMissing unsigned untabled headRefusal eventIn stepIn stepOf run eventsRead versionSaid
+unfolding opens-steps eventsRead versionSaid
 version-said = refl
 
 empty-seats : (n : ℕ) → n < 4 → seatType block n ≤ 3
@@ -64,7 +63,7 @@ empty-readable = record { well = empty-well; changing = λ e. tt; seats = empty-
 
 -- it holds the empty replay
 found : Found smallest
-unfolding fileOf tableBytes entriesBytes eventsBytes be part more lowest startsWith stopOf allPresent entriesIn tableOf spanOf codeTwice tableMissing unsigned untabled headRefusal eventIn stepIn stepOf run eventsRead versionSaid codesEvents framesEvents eventsOf listedRight gteOf above usedIn
+unfolding opens-steps eventsRead versionSaid codesEvents framesEvents eventsOf listedRight gteOf above usedIn
 found = record { replay = empty; whole = refl; events-are = refl; readable = empty-readable; listed = refl }
 
 -- no count exceeds its maximum
@@ -84,7 +83,7 @@ frames : gameRead smallest empty .frames ≡ record {
   ports = replicate 4 noPort;
   «port_count» = 0;
 }
-unfolding fileOf tableBytes entriesBytes eventsBytes be part more lowest startsWith stopOf allPresent entriesIn tableOf spanOf codeTwice tableMissing unsigned untabled headRefusal eventIn stepIn stepOf run eventsRead versionSaid framesRead rowsThere portColumns ranged everIn keep
+unfolding opens-steps eventsRead versionSaid framesRead rowsThere portColumns ranged everIn keep
 frames = refl
 
 no-seats : startIn (version 0 1 0) block .seats ≡ replicate 4 noSeat
@@ -96,7 +95,7 @@ no-end = refl
 
 marks : gameRead smallest empty .«double_end» ∷ gameRead smallest empty .«codes_given» ∷ gameRead smallest empty .«metadata_given» ∷ gameRead smallest empty .«actual_size» ∷ []
     ≡ 0 ∷ 0 ∷ 0 ∷ 0 ∷ []
-unfolding fileOf tableBytes entriesBytes eventsBytes be part more lowest startsWith stopOf allPresent entriesIn tableOf spanOf codeTwice tableMissing unsigned untabled headRefusal eventIn stepIn stepOf run eventsRead versionSaid gteOf above usedIn tailKind bare
+unfolding opens-steps eventsRead versionSaid gteOf above usedIn tailKind bare
 marks = refl
 
 -- nothing goes to its stores

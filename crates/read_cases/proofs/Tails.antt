@@ -8,7 +8,7 @@ use lib.ListN.{take, replicate}
 use Rattle.wire.specs.Wire.{be, more, part, keep}
 use Rattle.format.specs.Refusal.{lowest}
 use Rattle.format.specs.File.{entriesBytes, tableBytes, eventsBytes, fileOf}
-use Rattle.format.specs.Version.{version, above, gteOf}
+use Rattle.format.specs.Version.{above, gteOf}
 use Rattle.ending.specs.Tail.{metadataOf, tailOf}
 use Rattle.grammar.specs.Productions.{startEvent, codesEvents, framesEvents, eventsOf, usedIn}
 use Rattle.outline.specs.Listed.{listedRight}

@@ -2,39 +2,40 @@
 -- Assumes nothing.
 use mathlib.Core.Path.{_≡_, refl, sym, ap, ap₂, subst, _∙_}
 use mathlib.Core.Bool.{Bool, true, false, cond, _&&_}
-use mathlib.Core.List.{List, [], _∷_, _++_}
-use Prim.Native.Nat.{ℕ, zero, suc, _+_, _-_, _*_, _≤_, _<_}
+use mathlib.Core.List.{List, [], _∷_}
+use Prim.Native.Nat.{ℕ, suc, _+_, _*_, _≤_, _<_}
 use native.Mathlib.Omega.{arith}
-use borrow.Author.Tests.{lt-ltb, eq-eqb, ne-eqb}
+use borrow.Author.Tests.{lt-ltb, ne-eqb}
 use lib.Dec.{eqb, ltb}
-use lib.ListN.{length, drop, length-append}
+use lib.ListN.{length, length-append}
 use Rattle.wire.specs.Wire.{part}
 use Rattle.format.specs.Version.{gteOf}
 use Rattle.format.specs.declared.version.Version.{Version}
 use Rattle.layout.specs.Payloads.{endSize}
+use Rattle.game.specs.Zero.{noEnd}
 use Rattle.start.specs.Length.{lengthOf}
 use Rattle.start_read.specs.Start.{startIn}
 use Rattle.players.specs.Inner.{Modest}
 use Rattle.frames.proofs.Accepted.{counted}
 use Rattle.game.specs.declared.end.End.{End}
-use Rattle.game.specs.declared.frames.Counts.{Counts}
 use Rattle.game.specs.declared.frames.Frames.{Frames}
 use Rattle.game.specs.declared.start.Start.{Start}
-use Rattle.grammar.specs.Productions.{Block, Frame, Replay, usedIn}
+use Rattle.grammar.specs.Productions.{Block, Replay, usedIn}
 use Rattle.grammar.specs.WellFormed.{GoodCodes}
 use Rattle.columns.specs.Columns.{everIn, framesRead}
-use Rattle.frame_scan.specs.Counts.{isMarked}
-use Rattle.outline.specs.End.{endIn, noEnd}
+use Rattle.outline.specs.End.{endIn}
 use Rattle.outline.specs.Listed.{codesBytes}
 use Rattle.head.specs.Table.{stopOf, tableOf, firstPlace}
-use Rattle.needs.specs.Inner.{markAt, framesBy, lengthsBy}
+use Rattle.game.specs.Frames.{isMarked}
+use Rattle.needs.specs.Inner.{framesBy, lengthsBy}
 use Rattle.needs.specs.declared.Lengths.{Lengths}
-use Rattle.found.specs.Found.{Found, versionOf, geckoSpan}
+use Rattle.found.specs.Found.{versionOf, geckoSpan}
 use Rattle.found.specs.Inner.{Accepts, Tallied, EndAt}
 use Rattle.found.specs.declared.parts.Parts.{Parts}
+use Rattle.judging.specs.Inner.{countsBy}
 use Rattle.reading.specs.Game.{Kept, keptRead, lengthsOf, placesIn, codesMark, endRead}
 use Rattle.reading.specs.Read.{measuredIn, openedIn, keptShort}
-use Rattle.reading.specs.Inner.{countsBy, framesIn, lengthsIn, codesBy, endBy, Small, placesBy, shortBy}
+use Rattle.reading.specs.Inner.{framesIn, lengthsIn, codesBy, endBy, Small, placesBy, shortBy}
 use Rattle.reading.specs.declared.Measured.{Measured}
 use Rattle.reading.specs.declared.Opened.{Opened}
 use Rattle.reading.specs.declared.Places.{Places}
@@ -90,8 +91,7 @@ module _ (f : List ℕ) (first stop : ℕ) (p : Parts) (a : Accepts f first stop
   counts-are : countsBy (p .tally) ≡ countsOf v (r .frames)
   counts-are = λ i. record { frames = t .frames i; items = t .items i; fods = t .fods i; whispys = t .whispys i; stadiums = t .stadiums i }
 
-  marks : (k : ℕ) → k < 8 → markAt (p .tally .slots) k ≡ everIn k (r .frames)
-  unfolding markAt isMarked
+  marks : (k : ℕ) → k < 8 → isMarked (p .tally .slots) k ≡ everIn k (r .frames)
   marks k h = t .slots k h
 
   pub frames-in : framesIn p ≡ framesRead v (r .frames)

@@ -2,12 +2,12 @@
 -- Assumes nothing.
 use mathlib.Core.Path.{_≡_, refl, sym, ap, ap₂, _∙_}
 use mathlib.Core.Bool.{Bool, true, false, cond, _||_}
-use mathlib.Core.List.{List, [], _∷_, _++_, map}
-use Prim.Native.Nat.{ℕ, zero, suc, _+_, _-_, _*_, _/_, _<_, _≤_}
-use native.Mathlib.Nat.{one-mul, zero-mul, mul-zero}
+use mathlib.Core.List.{List, [], _∷_, map}
+use Prim.Native.Nat.{ℕ, suc, _+_, _*_, _<_}
+use native.Mathlib.Nat.{one-mul, zero-mul}
 use native.Mathlib.Omega.{arith}
-use lib.ListN.{length, replicate, length-append, length-map}
-use Rattle.wire.specs.Wire.{ranged, keep}
+use lib.ListN.{length, length-append, length-map}
+use Rattle.wire.specs.Wire.{keep}
 use Rattle.wire.proofs.Laws.{ranged-same}
 use Rattle.format.specs.Version.{gteOf, above}
 use Rattle.format.specs.declared.version.Version.{Version}
@@ -15,18 +15,17 @@ use Rattle.layout.specs.Columns.{col, columnsOf, hasFamily, widthsOf}
 use Rattle.layout.specs.declared.columns.Family.{Family}
 use Rattle.layout.specs.declared.columns.Family.the-variants.{Pre, Post, FrameStart, Item, FrameEnd, FodPlatform, DreamlandWhispy, StadiumTransformation}
 use Rattle.layout.proofs.Prefix.{none}
-use Rattle.game.specs.Frames.{noPort, slotsOf}
-use Rattle.game.specs.declared.frames.PortColumn.{PortColumn}
+use Rattle.game.specs.Frames.{slotsOf, isMarked}
 use Rattle.game.specs.declared.frames.Counts.{Counts}
 use Rattle.game.specs.declared.frames.Frames.{Frames}
 use Rattle.grammar.specs.Productions.{Frame}
-use Rattle.columns.specs.Columns.{everIn, presenceLen, portColumn, portColumns, rowsHere, rowsThere, framesRead, rowsCells, playersCells, slotsCells, offsetsRead, totals, slotsPresence, lentRead}
+use Rattle.columns.specs.Columns.{everIn, presenceLen, portColumn, portColumns, rowsHere, rowsThere, framesRead, rowsCells, playersCells, offsetsRead, totals, lentRead}
 use Rattle.columns.proofs.Laws.{columns-length}
 use Rattle.columns.proofs.Slots.{slots-length}
 use Rattle.columns.proofs.Presence.{slots-presence-length}
 use Rattle.columns.proofs.Offsets.{totals-length}
 use Rattle.reading.specs.Game.{kept, lengthsOf}
-use Rattle.needs.specs.Inner.{markAt, columnBy, portBy, portsBy, framesBy, storeBy, offsetsBy, lengthsBy}
+use Rattle.needs.specs.Inner.{portBy, portsBy, framesBy, storeBy, offsetsBy, lengthsBy}
 
 -- ---- the frame input
 
@@ -34,7 +33,7 @@ use Rattle.needs.specs.Inner.{markAt, columnBy, portBy, portsBy, framesBy, stor
 abbrev pub countsOf : Version → List Frame → Counts
 countsOf v fs = framesRead v fs .counts
 
-module _ (fs : List Frame) (slots : ℕ) (marks : (k : ℕ) → k < 8 → markAt slots k ≡ everIn k fs) where
+module _ (fs : List Frame) (slots : ℕ) (marks : (k : ℕ) → k < 8 → isMarked slots k ≡ everIn k fs) where
   port-is : (n : ℕ) → n < 4 → portBy slots (presenceLen fs) n ≡ keep (everIn (2 * n) fs || everIn (2 * n + 1) fs) (portColumn fs n ∷ [])
   unfolding portBy
   port-is n h = rw (marks (2 * n) (omega arith), marks (2 * n + 1) (omega arith))

@@ -1,6 +1,6 @@
 -- No second outcome: a file holds at most one replay, and what `measure` and `read` answer, and what `read` leaves in the stores, follow from their inputs.
 -- Assumes nothing.
-use mathlib.Core.Path.{_≡_, refl, sym, ap, subst, _∙_}
+use mathlib.Core.Path.{_≡_, sym, ap, _∙_}
 use mathlib.Core.Bool.{Bool, true, false, cond}
 use mathlib.Core.List.{List}
 use Prim.Native.Nat.{ℕ}

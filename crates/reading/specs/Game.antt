@@ -4,22 +4,19 @@ use Prim.Native.Nat.{ℕ, _+_, _-_}
 use mathlib.Core.Bool.{Bool, cond, _&&_}
 use mathlib.Core.List.{List, [], _∷_}
 use lib.Dec.{eqb, leb, ltb}
-use lib.ListN.{length, getD, drop, replicate}
-use Rattle.format.specs.Version.{version, gteOf}
+use lib.ListN.{length, getD, drop}
+use Rattle.format.specs.Version.{hasCodes}
 use Rattle.format.specs.declared.version.Version.{Version}
-use Rattle.game.specs.Frames.{noPort}
 use Rattle.game.specs.Stores.{Lent}
-use Rattle.game.specs.Zero.{noText, noSeat}
+use Rattle.game.specs.Zero.{noEnd}
 use Rattle.game.specs.declared.Game.{Game}
 use Rattle.game.specs.declared.end.End.{End}
-use Rattle.game.specs.declared.frames.Frames.{Frames}
-use Rattle.game.specs.declared.start.Start.{Start}
 use Rattle.ending.specs.Tail.{metadataKey}
 use Rattle.head.specs.Table.{stopOf, tableOf, firstPlace, startsWith}
 use Rattle.grammar.specs.Productions.{Replay, usedIn}
 use Rattle.columns.specs.Columns.{framesRead, lentRead}
 use Rattle.start_read.specs.Start.{startIn}
-use Rattle.outline.specs.End.{endIn, noEnd}
+use Rattle.outline.specs.End.{endIn}
 use Rattle.outline.specs.Listed.{codesBytes}
 use Rattle.found.specs.Found.{geckoSpan, versionOf}
 use Rattle.reading.specs.declared.Places.{Places}
@@ -71,7 +68,7 @@ isDouble ends = cond (eqb (length ends) 2) 1 0
 
 -- codes are given from 3.3, where 3D is listed
 abbrev pub codesMark : List ℕ → Version → ℕ
-codesMark f v = cond (gteOf v 3 3 && ltb 0 (geckoSpan f)) 1 0
+codesMark f v = cond (hasCodes v && ltb 0 (geckoSpan f)) 1 0
 
 abbrev pub gameRead : List ℕ → Replay → Game
 gameRead f r = let v = versionOf f in record {
@@ -138,43 +135,4 @@ noLengths = record {
   «stadium_offsets» = 0;
   presence = 0;
   codes = 0;
-}
-
-abbrev pub noFrames : Frames
-noFrames = record {
-  version = version 0 0 0;
-  counts = record { frames = 0; items = 0; fods = 0; whispys = 0; stadiums = 0 };
-  ports = replicate 4 noPort;
-  «port_count» = 0;
-}
-
-abbrev pub noStart : Start
-noStart = record {
-  bitfield = replicate 4 0;
-  «is_raining_bombs» = 0;
-  «is_teams» = 0;
-  «item_spawn_frequency» = 0;
-  «self_destruct_score» = 0;
-  stage = 0;
-  timer = 0;
-  «item_spawn_bitfield» = replicate 5 0;
-  «damage_ratio» = 0;
-  seats = replicate 4 noSeat;
-  «random_seed» = 0;
-  «is_pal» = record { given = 0; value = 0 };
-  «is_frozen_ps» = record { given = 0; value = 0 };
-  scene = record { given = 0; minor = 0; major = 0 };
-  language = record { given = 0; value = 0 };
-  «match_info» = record { given = 0; tail = 0; id = noText; game = 0; tiebreaker = 0 };
-}
-
-abbrev pub noGame : Game
-noGame = record {
-  frames = noFrames;
-  start = noStart;
-  end = noEnd;
-  «double_end» = 0;
-  «codes_given» = 0;
-  «metadata_given» = 0;
-  «actual_size» = 0;
 }

@@ -7,26 +7,22 @@ use lib.Dec.{eqb, ltb}
 use lib.ListN.{length, drop}
 use Rattle.wire.specs.Wire.{part}
 use Rattle.format.specs.Refusal.{oneOf}
-use Rattle.format.specs.Version.{gteOf}
+use Rattle.format.specs.Version.{hasCodes}
 use Rattle.format.specs.declared.version.Version.{Version}
 use Rattle.layout.specs.Payloads.{endSize}
+use Rattle.game.specs.Zero.{noEnd}
 use Rattle.game.specs.declared.end.End.{End}
-use Rattle.game.specs.declared.frames.Counts.{Counts}
 use Rattle.game.specs.declared.frames.Frames.{Frames}
 use Rattle.players.specs.Inner.{Modest}
-use Rattle.frame_scan.specs.declared.tally.Tally.{Tally}
-use Rattle.outline.specs.End.{endIn, noEnd}
+use Rattle.outline.specs.End.{endIn}
 use Rattle.needs.specs.Inner.{framesBy, lengthsBy}
 use Rattle.needs.specs.declared.Lengths.{Lengths}
 use Rattle.found.specs.declared.parts.Parts.{Parts}
+use Rattle.judging.specs.Inner.{countsBy}
 use Rattle.reading.specs.Game.{tailKind}
 use Rattle.reading.specs.declared.Places.{Places}
 
 -- ---- by the parts of a replay
-
--- the rows that were counted, the frame input, and the stores' lengths
-abbrev pub countsBy : Tally → Counts
-countsBy t = record { frames = t .frames; items = t .items; fods = t .fods; whispys = t .whispys; stadiums = t .stadiums }
 
 unfoldable pub framesIn : Parts → Frames
 framesIn p = framesBy (p .version) (countsBy (p .tally)) (p .tally .slots)
@@ -36,7 +32,7 @@ lengthsIn p = lengthsBy (framesIn p) (512 * p .blocks)
 
 -- the mark of codes, by how many bytes an event of code 3D has
 unfoldable pub codesBy : Version → ℕ → ℕ
-codesBy v gecko = cond (gteOf v 3 3 && ltb 0 gecko) 1 0
+codesBy v gecko = cond (hasCodes v && ltb 0 gecko) 1 0
 
 -- what the first end says
 unfoldable pub endBy : List ℕ → Parts → End

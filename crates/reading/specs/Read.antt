@@ -8,11 +8,12 @@ use lib.Dec.{ltb}
 use lib.ListN.{length}
 use Rattle.wire.specs.Wire.{splice}
 use Rattle.format.specs.Refusal.{oneOf}
-use Rattle.game.specs.Stores.{Lent, lent, cells, offsets}
+use Rattle.game.specs.Zero.{noFrames, noGame}
+use Rattle.game.specs.Stores.{lent, cells, offsets}
 use Rattle.grammar.specs.Productions.{Replay, usedIn}
 use Rattle.columns.specs.Columns.{framesRead}
 use Rattle.found.specs.Found.{versionOf, earlyRefusal, offsetOf, Found, tooBig}
-use Rattle.reading.specs.Game.{Kept, kept, keptRead, lengthsOf, placesIn, gameRead, codesMark, noPlaces, noLengths, noFrames, noGame}
+use Rattle.reading.specs.Game.{Kept, kept, keptRead, lengthsOf, placesIn, gameRead, codesMark, noPlaces, noLengths}
 use Rattle.reading.specs.declared.Measured.{Measured}
 use Rattle.reading.specs.declared.Opened.{Opened}
 

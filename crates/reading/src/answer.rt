@@ -1,16 +1,14 @@
 // What is answered, by the parts of a replay.
 ghost use mathlib.Core.Path.{_≡_};
-ghost use mathlib.Core.Bool.{cond, _&&_};
+ghost use mathlib.Core.Bool.{cond};
 ghost use Prim.Native.Nat.{_+_, _≤_};
-ghost use lib.Dec.{eqb, ltb};
+ghost use lib.Dec.{eqb};
 ghost use lib.ListN.{length};
-ghost use Rattle.format.specs.Version.{gteOf};
 ghost use Rattle.layout.specs.Payloads.{endSize};
-ghost use Rattle.needs.specs.Inner.{lengthsBy};
 ghost use Rattle.found.specs.Found.{geckoSpan};
 ghost use Rattle.found.specs.Inner.{Accepts};
 ghost use Rattle.reading.specs.Read.{measuredIn, openedIn, unmeasured, unopened};
-ghost use Rattle.reading.specs.Inner.{countsBy, framesIn, lengthsIn, codesBy, endBy, Small};
+ghost use Rattle.reading.specs.Inner.{framesIn, lengthsIn, codesBy, endBy, Small};
 use super::Measured;
 use super::Opened;
 use super::none::no_end;
@@ -21,25 +19,11 @@ use super::none::no_places;
 use super::tail::places;
 use format::version::Version;
 use found::parts::Parts;
-use frame_scan::tally::Tally;
 use game::Game;
 use game::end::End;
-use game::frames::Counts;
 use game::frames::Frames;
+use judging::counts_by;
 use needs::Lengths;
-
-// How many rows were counted.
-fn counts_by(t: Tally) -> Counts
-    ensures { λ r. ⌜ r ≡ countsBy t ⌝ }
-{
-    Counts {
-        frames: t.frames,
-        items: t.items,
-        fods: t.fods,
-        whispys: t.whispys,
-        stadiums: t.stadiums,
-    }
-}
 
 // The frame input.
 pub fn frames_in(p: Parts) -> Frames
@@ -64,7 +48,7 @@ fn codes_by(v: Version, gecko: usize) -> u8
     if gecko == 0 {
         return 0;
     }
-    if v.gte(3, 3) {
+    if v.has_codes() {
         return 1;
     }
     0

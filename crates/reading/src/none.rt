@@ -1,8 +1,7 @@
 // Values that say nothing, which an answer has where it is refused.
 ghost use mathlib.Core.Path.{_≡_};
-ghost use Rattle.game.specs.Zero.{noText};
-ghost use Rattle.outline.specs.End.{noEnd};
-ghost use Rattle.reading.specs.Game.{noPlaces, noLengths, noFrames, noStart, noGame};
+ghost use Rattle.game.specs.Zero.{noFrames, noStart, noEnd, noGame};
+ghost use Rattle.reading.specs.Game.{noPlaces, noLengths};
 use super::Places;
 use format::version::Version;
 use game::Game;

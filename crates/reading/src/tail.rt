@@ -1,7 +1,7 @@
 // What stands round the replay in a file: its payload table's entry for codes before it, and a tail behind it.
 ghost use mathlib.Core.Path.{_≡_};
 ghost use mathlib.Core.Bool.{true};
-ghost use Prim.Native.Nat.{_+_, _*_, _≤_};
+ghost use Prim.Native.Nat.{_+_, _≤_};
 ghost use lib.ListN.{length, drop};
 ghost use Rattle.ending.specs.Tail.{metadataKey};
 ghost use Rattle.head.specs.Table.{startsWith, tableOf, firstPlace};
@@ -10,6 +10,7 @@ ghost use Rattle.reading.specs.Game.{bare, hasBody, tailKind};
 ghost use Rattle.reading.specs.Inner.{placesBy};
 use super::Places;
 use ending::tail::METADATA_KEY;
+use format::event::GECKO_CODES;
 
 // Whether a tail begins with the metadata's key.
 fn has_key(tail: &[u8]) -> bool
@@ -68,7 +69,7 @@ fn kind_of(tail: &[u8]) -> u8
     2
 }
 
-// The same of what stands in a file from a place on.
+// What stands in a file from a place on: 0 for one brace, 1 for metadata, 2 for anything else.
 pub fn tail_kind(file: &[u8], stop: usize) -> u8
     requires { ⌜ stop ≤ length (now file) ⌝ }
     ensures { λ r. ⌜ (r ≡ tailKind (drop stop (now (file .entry)))) × (r ≡ 1 → stop + 13 ≤ length (now (file .entry))) ⌝ }
@@ -109,7 +110,7 @@ pub fn gecko_span(file: &[u8], first: usize) -> usize
     let mut at = 17;
     let mut left = (first - 17) / 3;
     while 0 < left {
-        if file[at] == 0x3D {
+        if file[at] == GECKO_CODES {
             return 1 + wire::get_be(file, at + 1, 2) as usize;
         }
         at += 3;

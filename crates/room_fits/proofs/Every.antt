@@ -1,9 +1,9 @@
 -- Every plan that is not refused has a game that takes all of its room: its cells are zeros, everybody is present, and what counts nothing is left out.
 -- Assumes nothing.
-use mathlib.Core.Path.{_≡_, refl, sym, ap, ap₂, subst, _∙_}
+use mathlib.Core.Path.{_≡_, refl, sym, ap, subst, _∙_}
 use mathlib.Core.Bool.{Bool, true, false, not, cond, _&&_, _||_}
 use mathlib.Core.List.{List, [], _∷_, _++_, map}
-use Prim.Native.Nat.{ℕ, zero, suc, _+_, _*_, _/_, _^_, _≤_, _<_, min}
+use Prim.Native.Nat.{ℕ, zero, suc, _+_, _*_, _/_, _^_, _≤_, min}
 use native.Mathlib.Nat.{pow-suc}
 use native.Mathlib.Omega.{arith}
 use borrow.Author.Tests.{le-ltb, ltb-false, lt-leb, eq-eqb}
@@ -11,9 +11,9 @@ use lib.Dec.{eqb, leb, ltb}
 use lib.ListN.{length, getD, take, drop, replicate, length-replicate, length-append}
 use lib.Seq.{getD-at}
 use Rattle.wire.specs.Wire.{keep, tabulate}
-use Rattle.format.specs.Mark.{yes, no}
+use Rattle.format.specs.Mark.{yes}
 use Rattle.format.specs.Refusal.{lowest, oneOf}
-use Rattle.format.specs.Version.{gteOf}
+use Rattle.format.specs.Version.{gteOf, hasInitiator}
 use Rattle.format.specs.declared.version.Version.{Version}
 use Rattle.format.proofs.Refusals.{passed, skip, none, lowest-after}
 use Rattle.format.proofs.Tests.{one-passed, one-skip, one-none}
@@ -28,18 +28,18 @@ use Rattle.game.specs.declared.frames.Counts.{Counts}
 use Rattle.game.specs.declared.frames.Frames.{Frames}
 use Rattle.game.specs.declared.frames.PortColumn.{PortColumn}
 use Rattle.players.proofs.PresenceLaws.{marked-all}
-use Rattle.players.specs.Presence.{marked, presentAt, uneven, portUneven, portsUneven, presenceWrong}
+use Rattle.players.specs.Presence.{uneven, portUneven, portsUneven, presenceWrong}
 use Rattle.frames.specs.Judge.{tooNew, tooMany, misfits, storesMisfit, over, columnsExceed, blocksExceed, exceeds, cellsExceed, falls, strays, leftOver, misleads, offsetsMislead, portNumbers, twice, portsWrong, refusals}
 use Rattle.patch.specs.Field.{zeroInside}
 use Rattle.start.specs.declared.gate.Gate.{Gate}
 use Rattle.start.specs.Gate.{reaches, palFrom, frozenFrom, sceneFrom, languageFrom, matchFrom}
 use Rattle.start.specs.Refusal.{blockWrong, missing, tooLong, holdsZero, badSeat, badStart}
 use Rattle.codes.specs.Blocks.{blockCount, codesWrong}
-use Rattle.ending.specs.End.{hasInitiator, initiatorWrong, endWrong}
+use Rattle.ending.specs.End.{initiatorWrong, endWrong}
 use Rattle.ser.specs.Write.{givenBytes, file, judged, refusal}
-use Rattle.ser.proofs.Outcomes.{Passed, passes, numbered-eleven}
+use Rattle.ser.proofs.Outcomes.{passes, numbered-eleven}
 use Rattle.cases.specs.Games.{plainStart, plainEnd}
-use Rattle.room.specs.Room.{withFrames, counted, roomOf, roomRefusals, answered, reserved, AtMost}
+use Rattle.room.specs.Room.{counted, roomOf, roomRefusals, answered, reserved, AtMost}
 use Rattle.room.specs.declared.Plan.{Plan}
 use Rattle.room.proofs.Laws.{taken}
 use Rattle.room.proofs.Rising.{trimmed, counts-nothing}

@@ -31,7 +31,7 @@ use Rattle.codes.proofs.Laws.{right-codes}
 use Rattle.ending.specs.Inner.{endCount}
 use Rattle.events.specs.Length.{eventSize, framesLength}
 use Rattle.events.proofs.Sizes.{has-pre, has-post}
-use Rattle.ser.specs.Write.{givenBytes, file}
+use Rattle.ser.specs.Write.{givenBytes}
 use Rattle.ser.proofs.Outcomes.{Passed, players-most}
 use Rattle.room.specs.Room.{withFrames, howMany, eventRoom}
 use Rattle.room.specs.Inner.{framesRoom}

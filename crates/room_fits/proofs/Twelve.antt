@@ -9,19 +9,16 @@ use lib.ListN.{length, getD, replicate}
 use Rattle.wire.specs.Wire.{be, keep, tabulate}
 use Rattle.format.specs.File.{entriesBytes, tableBytes}
 use Rattle.format.specs.Refusal.{lowest, oneOf}
-use Rattle.format.specs.Version.{version, above, gteOf, acceptedOf}
-use Rattle.layout.specs.Columns.{columnsOf, chosen, hasFamily, sum}
+use Rattle.format.specs.Version.{version, acceptedOf}
 use Rattle.layout.specs.Payloads.{endSize, listed, payloadSize, entriesOf}
 use Rattle.game.specs.Frames.{noSlot, portsOf, portSlots, portBytes, slotsFrom, slotsOf}
 use Rattle.game.specs.Stores.{Stores}
 use Rattle.game.specs.declared.Game.{Game}
-use Rattle.players.specs.Presence.{marked, presentAt, uneven, portUneven, portsUneven, presenceWrong}
-use Rattle.frames.specs.Judge.{tooMany, misfits, storesMisfit, columnsExceed, blocksExceed, exceeds, cellsExceed, falls, strays, leftOver, misleads, offsetsMislead, portNumbers, twice, portsWrong, refusals}
+use Rattle.players.specs.Presence.{marked, presentAt}
+use Rattle.frames.specs.Judge.{tooMany}
 use Rattle.start.specs.Length.{reached, lengthOf}
-use Rattle.start.specs.Refusal.{blockWrong, missing, tooLong, holdsZero, badSeat, badStart}
-use Rattle.patch.specs.Field.{zeroInside}
-use Rattle.codes.specs.Blocks.{blockCount, codesWrong}
-use Rattle.ending.specs.End.{initiatorWrong, endWrong}
+use Rattle.start.specs.Refusal.{blockWrong}
+use Rattle.codes.specs.Blocks.{blockCount}
 use Rattle.ser.specs.Write.{judged, file}
 use Rattle.ser.proofs.Outcomes.{Passed, passes}
 use Rattle.cases.specs.Games.{plainStart, plainEnd, plainFrames, gameOf, blockAlone, oneFrame}
@@ -30,6 +27,8 @@ use Rattle.room.specs.Room.{howMany, eventRoom, roomOf, roomRefusals, reserved}
 use Rattle.room.specs.declared.Reserved.{Reserved}
 use Rattle.room_fits.specs.Fits.{planOf, Fullest}
 use Rattle.room_fits.proofs.Enough as enough
+use Rattle.frames.proofs.Opens.{opens-columns, opens-slots}
+use Rattle.ser.proofs.Opens.{opens-judged}
 
 -- a case's number, its game, and the room of its plan
 record Row : Type 0 where
@@ -56,7 +55,7 @@ table =
     ∷ []
 
 rooms : map (λ (r : Row). reserved (planOf (r .game) (r .stores))) table ≡ map (λ (r : Row). r .answer) table
-unfolding table keep tabulate portsOf portSlots portBytes slotsFrom slotsOf roomRefusals lowest tooMany oneOf blockWrong lengthOf reached acceptedOf above gteOf roomOf eventRoom howMany sum chosen columnsOf hasFamily listed payloadSize entriesOf endSize tableBytes entriesBytes be
+unfolding opens-columns opens-slots table roomRefusals lowest tooMany oneOf blockWrong lengthOf reached acceptedOf roomOf eventRoom howMany listed payloadSize entriesOf endSize tableBytes entriesBytes be
 rooms = refl
 
 -- ---- case 8's game with its end doubled and metadata of one byte: the fullest of its counts
@@ -77,7 +76,7 @@ fullStores = record { lent = oneFrame [] .lent; template = replicate 760 0; code
 
 -- computed
 full-judged : lowest (judged full fullStores) ≡ 0
-unfolding judged refusals lowest oneOf tooMany storesMisfit misfits cellsExceed exceeds blocksExceed columnsExceed offsetsMislead misleads strays leftOver falls presenceWrong portsUneven portUneven uneven portsWrong portNumbers twice slotsOf slotsFrom portsOf portSlots portBytes tabulate keep sum chosen columnsOf hasFamily acceptedOf above gteOf blockWrong lengthOf reached badStart badSeat missing tooLong holdsZero zeroInside codesWrong blockCount endWrong initiatorWrong
+unfolding opens-judged blockCount
 full-judged = refl
 
 full-passed : Passed full fullStores
@@ -92,7 +91,7 @@ fullest = record { everybody = here; ended = refl; doubled = refl; metadata = re
     here (suc k) i h l = absurd (omega arith)
 
 full-room : roomOf (planOf full fullStores) ≡ 1533
-unfolding keep tabulate portsOf portSlots portBytes slotsFrom slotsOf gteOf above roomOf eventRoom howMany sum chosen columnsOf hasFamily listed payloadSize entriesOf endSize tableBytes entriesBytes be
+unfolding opens-columns opens-slots roomOf eventRoom howMany listed payloadSize entriesOf endSize tableBytes entriesBytes be
 full-room = refl
 
 -- its file has as many bytes as its room

@@ -5,7 +5,7 @@ use mathlib.Core.Path.{_≡_}
 use mathlib.Core.Bool.{true}
 use lib.ListN.{length, getD}
 use Rattle.format.specs.Mark.{yes}
-use Rattle.format.specs.Version.{gteOf}
+use Rattle.format.specs.Version.{hasCodes}
 use Rattle.game.specs.Frames.{noSlot, slotsOf}
 use Rattle.game.specs.Stores.{Stores}
 use Rattle.game.specs.declared.Game.{Game}
@@ -32,7 +32,7 @@ pub record Fullest (g : Game) (s : Stores) : Type 0 where
   pub ended : yes (g .end .given) ≡ true
   pub doubled : yes (g .«double_end») ≡ true
   pub metadata : yes (g .«metadata_given») ≡ true
-  pub codes : gteOf (g .frames .version) 3 3 ≡ true → yes (g .«codes_given») ≡ true
+  pub codes : hasCodes (g .frames .version) ≡ true → yes (g .«codes_given») ≡ true
 
 -- there is a game that takes all the room of a plan: it is accepted, no count of it is above the plan's, and its file has as many bytes as are reserved
 pub record TakesAll (p : Plan) : Type 0 where

@@ -4,20 +4,18 @@ use mathlib.Core.Path.{_≡_, refl}
 use mathlib.Core.List.{List, [], _∷_, _++_, map}
 use Prim.Native.Nat.{ℕ, zero, suc, _+_}
 use lib.ListN.{length, replicate}
-use Rattle.wire.specs.Wire.{splice, ranged, keep, tabulate}
-use Rattle.format.specs.Version.{version, above, gteOf, acceptedOf}
-use Rattle.format.specs.Refusal.{lowest, oneOf}
+use Rattle.wire.specs.Wire.{splice, ranged}
+use Rattle.format.specs.Version.{version}
 use Rattle.format.specs.declared.version.Version.{Version}
-use Rattle.layout.specs.Columns.{columnsOf, chosen, sum, hasFamily}
-use Rattle.game.specs.Frames.{portsOf, portSlots, portBytes, slotsFrom, slotsOf}
 use Rattle.game.specs.Stores.{Lent, cells, offsets, lent}
 use Rattle.game.specs.declared.frames.PortColumn.{PortColumn}
 use Rattle.game.specs.declared.frames.Frames.{Frames}
-use Rattle.frames.specs.Judge.{tooMany, misfits, storesMisfit, columnsExceed, blocksExceed, exceeds, cellsExceed, falls, strays, leftOver, misleads, offsetsMislead, portNumbers, twice, portsWrong, refusals}
-use Rattle.players.specs.Presence.{marked, uneven, portUneven, portsUneven, presenceWrong}
+use Rattle.frames.specs.Judge.{refusals}
+use Rattle.players.specs.Presence.{marked}
 use Rattle.transpose.specs.Records.{markAt}
 use Rattle.transpose.specs.Answers.{unlessRefused}
-use Rattle.run_rows.specs.Run.{familyOf, noRun, runRow, runCells, runLength, runRefusal}
+use Rattle.run_rows.specs.Run.{familyOf, noRun, runRow, runCells, runRefusal}
+use Rattle.frames.proofs.Opens.{opens-refusals}
 
 -- from, from + step, .., n of them
 steps : ℕ → ℕ → ℕ → List ℕ
@@ -99,5 +97,5 @@ shown c =
     n ∷ unlessRefused n (splice (c .out) 0 (runCells f s (familyOf (c .number)) (c .slot) (c .from) (c .to))) (c .out)
 
 computed : map shown cases ≡ map (λ (c : Case). c .answer) cases
-unfolding cases shown steps splice ranged runRow noRun runRefusal unlessRefused markAt marked lowest refusals acceptedOf above gteOf columnsOf chosen sum hasFamily keep tabulate portsOf portSlots portBytes slotsFrom slotsOf oneOf tooMany misfits storesMisfit columnsExceed blocksExceed exceeds cellsExceed falls strays leftOver misleads offsetsMislead uneven portUneven portsUneven presenceWrong portNumbers twice portsWrong
+unfolding opens-refusals cases shown steps splice ranged runRow noRun runRefusal unlessRefused markAt marked
 computed = refl

@@ -3,10 +3,10 @@
 use mathlib.Core.Path.{_≡_, refl, sym, ap, subst, _∙_}
 use mathlib.Core.Bool.{false}
 use mathlib.Core.List.{List, []}
-use Prim.Native.Nat.{ℕ, _+_, _*_, _-_, _≤_}
+use Prim.Native.Nat.{ℕ, _-_}
 use native.Mathlib.Omega.{arith}
 use lib.ListN.{length}
-use Rattle.wire.specs.Wire.{Room, Wrote, ranged, splice}
+use Rattle.wire.specs.Wire.{Room, Wrote, ranged}
 use Rattle.wire.proofs.Writers.{room-as, wrote-as}
 use Rattle.layout.specs.declared.columns.Family.{Family}
 use Rattle.layout.specs.declared.columns.Family.the-variants.{Pre, Post, FrameStart, Item, FrameEnd, FodPlatform, DreamlandWhispy, StadiumTransformation}
@@ -14,9 +14,8 @@ use Rattle.game.specs.Stores.{Cells, Lent, cells, cellsOf}
 use Rattle.game.specs.declared.frames.Frames.{Frames}
 use Rattle.transpose.specs.Answers.{unlessRefused}
 use Rattle.transpose.proofs.Shown.{given-none, given-row}
-use Rattle.run_rows.specs.Run.{familyOf, ofPlayers, rowLength, runLength, runRow, runCells, runRefusal, runAnswer, RowsOutcome}
+use Rattle.run_rows.specs.Run.{familyOf, ofPlayers, runLength, runRow, runCells, runRefusal, RowsOutcome}
 use Rattle.run_rows.specs.Inner.{Running}
-use Rattle.run_rows.specs.declared.run.Run.{Run}
 use Rattle.run_rows.proofs.Runs.{plain-any, length-rows}
 use Rattle.run_rows.proofs.Judged.{run-room, running}
 

@@ -1,6 +1,6 @@
 -- The rows made of a run's cells are the rows that the single calls give, at every index.
 -- Assumes nothing.
-use mathlib.Core.Path.{_≡_, refl, sym, ap, ap₂, subst, _∙_}
+use mathlib.Core.Path.{_≡_, refl, sym, ap, ap₂, _∙_}
 use mathlib.Core.Bool.{Bool, true, false, cond, _||_}
 use mathlib.Core.List.{List, [], _∷_, _++_, append-assoc}
 use Prim.Native.Nat.{ℕ, zero, suc, _+_, _*_, _-_, _%_, _^_, _≤_, _<_}
@@ -8,13 +8,13 @@ use native.Mathlib.Nat.{mod-eq-of-lt, suc-mul, zero-mul, add-zero}
 use native.Mathlib.Decide.{decLt}
 use native.Mathlib.Omega.{arith}
 use borrow.Author.Tests.{lt-ltb, le-ltb, lt-leb}
-use lib.Dec.{ltb, leb, lit<}
-use lib.ListN.{length, getD, take, drop, List·getD-append}
+use lib.Dec.{ltb, leb}
+use lib.ListN.{length, getD, drop, List·getD-append}
 use lib.Seq.{take-at, drop-at, drop-drop, getD-at}
 use Rattle.wire.specs.Wire.{ranged, part, splice, tabulate, keep}
 use Rattle.wire.proofs.Laws.{splice-is, tabulate-length, tabulate-at, tabulate-ext}
-use Rattle.format.specs.Refusal.{refuse, lowest}
-use Rattle.format.proofs.Refusals.{skip, none, lowest-after, lowest-first}
+use Rattle.format.specs.Refusal.{refuse}
+use Rattle.format.proofs.Refusals.{skip, none, lowest-after}
 use Rattle.format.specs.declared.version.Version.{Version}
 use Rattle.layout.specs.Columns.{widthsOf}
 use Rattle.layout.specs.declared.columns.Family.{Family}
@@ -31,7 +31,7 @@ use Rattle.transpose.specs.Judge.{outside, rowRefusal}
 use Rattle.transpose.specs.Records.{cellsAt, markAt}
 use Rattle.transpose.specs.Frame.{frameAt, noFrame}
 use Rattle.transpose.specs.Inner.{Reachable}
-use Rattle.transpose.specs.Answers.{unlessRefused, preRow, postRow, itemRow, fodPlatformRow, dreamlandWhispyRow, stadiumTransformationRow, frameRow}
+use Rattle.transpose.specs.Answers.{preRow, postRow, itemRow, fodPlatformRow, dreamlandWhispyRow, stadiumTransformationRow, frameRow}
 use Rattle.transpose.specs.declared.frame.Frame.{Frame}
 use Rattle.transpose.proofs.Judged.{reachable, showable}
 use Rattle.transpose.proofs.Shown.{given-row}
@@ -39,7 +39,7 @@ use Rattle.given_rows.specs.Given.{givenCells, givenMark, preGiven, postGiven, 
 use Rattle.run_rows.specs.Run.{familyOf, ofPlayers, rowLength, runRow, runCells, runRefusal, RowsOutcome}
 use Rattle.run_rows.specs.declared.run.Run.{Run}
 use Rattle.run_rows.proofs.Runs.{length-row, length-rows}
-use Rattle.run_rows.proofs.Judged.{slot-in, range, inside, run-first, run-there, run-room}
+use Rattle.run_rows.proofs.Judged.{slot-in, inside, run-first, run-there, run-room}
 
 -- ---- a row among rows of one length
 module _ (rows : ℕ → List ℕ) (w : ℕ) (len : (i : ℕ) → length (rows i) ≡ w) where

@@ -1,7 +1,7 @@
 // The rows of a family in a lent store, row after row, out of stores that were judged.
 ghost use mathlib.Core.Path.{_≡_};
 ghost use mathlib.Core.Bool.{true, false, cond};
-ghost use mathlib.Core.List.{[], _∷_, _++_};
+ghost use mathlib.Core.List.{[]};
 ghost use Prim.Native.Nat.{ℕ, _+_, _-_, _≤_, _<_};
 ghost use Rattle.wire.specs.Wire.{Room, Wrote, ranged};
 ghost use Rattle.players.specs.Presence.{marked};
@@ -46,7 +46,7 @@ fn mark_cell(presence: &[u8], at: usize, len: u32, i: usize) -> u32
     0
 }
 
-// The rows from a on and before b.
+// The rows of a family without players from a on and before b.
 fn put_plain(
     out: &mut [u32],
     cells: &[u32],
@@ -68,7 +68,7 @@ fn put_plain(
     p
 }
 
-// The same with the player's mark behind each row's cells.
+// A player's rows from a on and before b, with the mark of presence behind each row's cells.
 fn put_players(
     out: &mut [u32],
     cells: &[u32],

@@ -2,11 +2,10 @@
 ghost use mathlib.Core.Path.{_≡_};
 ghost use mathlib.Core.List.{[]};
 ghost use Prim.Native.Nat.{_-_, _≤_, _<_, _*_};
-ghost use lib.ListN.{length};
 ghost use Rattle.wire.specs.Wire.{Room, Wrote, ranged};
 ghost use Rattle.game.specs.Frames.{rowsOf};
 ghost use Rattle.game.specs.Stores.{cells, cellsOf, offsets, lent};
-ghost use Rattle.run_rows.specs.Run.{familyOf, noRun, rowLength, runLength, runRow, RowsOutcome};
+ghost use Rattle.run_rows.specs.Run.{familyOf, noRun, rowLength, runRow, RowsOutcome};
 ghost use Rattle.run_rows.specs.Inner.{Running, runRefused};
 use super::family::family_of;
 use super::family::of_players;

@@ -8,6 +8,7 @@ use native.Mathlib.Omega.{arith}
 use borrow.Author.Tests.{le-ltb}
 use lib.ListN.{length, getD}
 use Rattle.wire.specs.Wire.{keep}
+use Rattle.format.specs.Version.{hasInitiator}
 use Rattle.format.specs.Mark.{yes}
 use Rattle.format.specs.Refusal.{lowest}
 use Rattle.format.specs.declared.version.Version.{Version}
@@ -20,7 +21,7 @@ use Rattle.start.specs.Refusal.{blockWrong, badStart}
 use Rattle.start_read.specs.Start.{startIn}
 use Rattle.start_back.proofs.Back as start
 use Rattle.codes.specs.Blocks.{codesWrong}
-use Rattle.ending.specs.End.{hasInitiator, initiatorWrong, endWrong}
+use Rattle.ending.specs.End.{initiatorWrong, endWrong}
 use Rattle.ser.specs.Write.{givenBytes, file, judged, refusal}
 use Rattle.ser.proofs.Outcomes.{numbered-eleven}
 use Rattle.grammar.specs.Productions.{Replay, usedIn}

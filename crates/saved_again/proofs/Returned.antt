@@ -7,20 +7,22 @@ use mathlib.Core.List.{[], _∷_}
 use native.Mathlib.Omega.{arith}
 use lib.ListN.{getD}
 use Rattle.wire.specs.Wire.{keep}
+use Rattle.format.specs.Version.{hasPlacements}
 use Rattle.format.specs.Mark.{yes}
 use Rattle.format.specs.declared.version.Version.{Version}
+use Rattle.game.specs.Zero.{noEnd}
 use Rattle.game.specs.Stores.{Stores}
 use Rattle.game.specs.declared.Game.{Game}
 use Rattle.game.specs.declared.end.End.{End}
 use Rattle.start_read.specs.Start.{startIn}
 use Rattle.start_back.specs.Returned.{StartReturned}
 use Rattle.start_back.proofs.Back as start
-use Rattle.ending.specs.End.{hasPlacements, placementOf, endOf}
+use Rattle.ending.specs.End.{placementOf, endOf}
 use Rattle.ser.specs.Write.{file}
 use Rattle.grammar.specs.Productions.{Replay}
 use Rattle.grammar_games.specs.Tree.{endBytes, endsOf, replayOf}
 use Rattle.read_back.proofs.Returned.{game-returned}
-use Rattle.outline.specs.End.{markBy, valueBy, noEnd}
+use Rattle.outline.specs.End.{markBy, valueBy}
 use Rattle.outline.proofs.Back.{endAgain, read-back, again-absent, again-nowhere, again-placed}
 use Rattle.reading.specs.Game.{endRead, isDouble, gameRead}
 use Rattle.saved_again.specs.Admitted.{Admitted}

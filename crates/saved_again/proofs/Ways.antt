@@ -1,22 +1,19 @@
 -- From the calls: the texts that a viewer reads, and the two ways of the match id's tail, of a start that is as its type says.
 -- Assumes nothing.
-use mathlib.Core.Path.{_≡_, refl, sym, ap, _∙_}
-use mathlib.Core.Bool.{Bool, true, false, cond}
+use mathlib.Core.Path.{_≡_, sym, ap, _∙_}
+use mathlib.Core.Bool.{true, false}
 use mathlib.Core.List.{List, [], _∷_, _++_}
-use Prim.Native.Nat.{ℕ, zero, suc, _+_, _-_, _*_, _≤_, _<_}
+use Prim.Native.Nat.{ℕ, zero, suc, _+_, _-_, _≤_, _<_}
 use native.Mathlib.Omega.{arith}
 use lib.ListN.{length, getD, take, replicate, length-append, length-take}
 use lib.Seq.{getD-take}
-use Rattle.wire.specs.Wire.{be, part, keep}
-use Rattle.wire.proofs.Laws.{length-be}
+use Rattle.wire.specs.Wire.{part}
 use Rattle.format.specs.Mark.{yes}
 use Rattle.format.specs.declared.version.Version.{Version}
 use Rattle.patch.specs.Field.{text, readAt}
-use Rattle.patch.specs.Patch.{patch, patched}
 use Rattle.patch.proofs.Positions.{Misses, misses-append, misses-kept, part-clear, part-inside}
 use Rattle.game.specs.MatchTails.{matchTailOf}
 use Rattle.game.specs.declared.start.MatchTail.the-variants.{Kept}
-use Rattle.game.specs.declared.start.MatchTail.{MatchTail}
 use Rattle.game.specs.Stores.{Stores}
 use Rattle.game.specs.Zero.{noSeat}
 use Rattle.game.specs.declared.Game.{Game}
@@ -25,19 +22,18 @@ use Rattle.game.specs.declared.start.Seat.{Seat}
 use Rattle.start.specs.Gate.{reaches, matchFrom}
 use Rattle.start.specs.Length.{lengthOf}
 use Rattle.start.specs.Refusal.{badStart}
-use Rattle.start.specs.Block.{gameFields, seatsFields, modeFields, matchTail, matchFields, fields, startBlock}
+use Rattle.start.specs.Block.{gameFields, seatsFields, modeFields, matchFields, fields, startBlock}
 use Rattle.start.proofs.Blocks.{length-start-block}
 use Rattle.start.proofs.Lengths.{long-enough}
 use Rattle.start.proofs.Refusals.{block-fits, short-text, good-start}
 use Rattle.start.proofs.Views as views
 use Rattle.start_back.specs.Declared.{Declared, SeatDeclared}
-use Rattle.start_back.proofs.Order.{owner, own-match, rank, misses-above}
+use Rattle.start_back.proofs.Order.{own-match, rank, misses-above}
 use Rattle.start_back.proofs.Fields.{game-spans, seats-spans, modes-spans}
 use Rattle.ser.specs.declared.written.Written.the-variants.{File}
 use Rattle.ser.specs.Write.{file, refusal, answered, WrittenNumbers, writtenNumbers, Outcome}
 use Rattle.ser.proofs.Answered.{accepted, written-file}
 use Rattle.ser.proofs.Files.{file-parts}
-use Rattle.ser.proofs.Outcomes.{Passed}
 use Rattle.ser.proofs.Viewed as viewed
 use Rattle.ser.proofs.Viewed.{blockPlace, front, rest, length-front}
 use Rattle.ser.proofs.Tails as tails

@@ -1,9 +1,9 @@
 -- Two computed games within the limits, so that the theorems speak of more than empty ones: before 2.2 two frames with two ports, one of them absent once, and a seat
 -- with a tag; and at 3.18 a follower who comes later, teams, a CPU, items, an end and metadata.
 -- Assumes nothing.
-use Prim.Native.Nat.{ℕ, zero, suc, _+_, _*_, _^_, _≤_, _<_}
+use Prim.Native.Nat.{ℕ, zero, suc, _+_, _*_, _^_, _<_}
 use mathlib.Core.Path.{_≡_, refl, sym, _∙_}
-use mathlib.Core.Bool.{Bool, true, false}
+use mathlib.Core.Bool.{false}
 use mathlib.Core.List.{List, [], _∷_, _++_}
 use native.Mathlib.Omega.{arith}
 use borrow.Author.Tests.{le-ltb}
@@ -11,35 +11,28 @@ use lib.Dec.{lit<}
 use lib.ListN.{length, getD, replicate}
 use Rattle.wire.specs.Wire.{keep, tabulate}
 use Rattle.format.specs.Mark.{yes}
-use Rattle.format.specs.Refusal.{lowest, oneOf}
-use Rattle.format.specs.Version.{version, above, gteOf, acceptedOf}
+use Rattle.format.specs.Refusal.{lowest}
+use Rattle.format.specs.Version.{version, above, gteOf}
 use Rattle.format.proofs.Refusals.{skip, none, lowest-after}
-use Rattle.layout.specs.Columns.{columnsOf, chosen, sum, hasFamily}
-use Rattle.layout.specs.declared.columns.Family.the-variants.{FrameStart}
-use Rattle.game.specs.Frames.{noPort, noSlot, portsOf, portSlots, portBytes, slotsFrom, slotsOf}
+use Rattle.layout.specs.Columns.{hasFamily}
+use Rattle.game.specs.Frames.{noPort, portsOf, portSlots, portBytes, slotsFrom, slotsOf}
 use Rattle.game.specs.Stores.{cells, offsets, lent, Stores, stores}
 use Rattle.game.specs.Zero.{noText, noSeat}
 use Rattle.game.specs.declared.Game.{Game}
-use Rattle.game.specs.declared.frames.Frames.{Frames}
 use Rattle.game.specs.declared.frames.PortColumn.{PortColumn}
 use Rattle.game.specs.declared.start.Text.{Text}
 use Rattle.game.specs.declared.start.Optional.{Optional}
 use Rattle.game.specs.declared.start.Seat.{Seat}
 use Rattle.game.specs.declared.start.Start.{Start}
-use Rattle.players.specs.Presence.{marked, presentAt, uneven, portUneven, portsUneven, presenceWrong}
-use Rattle.frames.specs.Judge.{tooMany, misfits, storesMisfit, columnsExceed, blocksExceed, exceeds, cellsExceed, refusals}
-use Rattle.frames.specs.Judge.{falls, strays, leftOver, misleads, offsetsMislead, portNumbers, twice, portsWrong}
-use Rattle.patch.specs.Field.{zeroInside}
-use Rattle.start.specs.Length.{reached, lengthOf}
-use Rattle.start.specs.Refusal.{blockWrong, missing, tooLong, holdsZero, fieldMissing, typeAbove2, cpuWithoutLevel, textTooLong, textHoldsZero, badSeat, badStart}
+use Rattle.players.specs.Presence.{marked}
+use Rattle.start.specs.Refusal.{fieldMissing, typeAbove2, cpuWithoutLevel, textTooLong, textHoldsZero}
 use Rattle.start_read.specs.Start.{byteAt}
-use Rattle.start_back.specs.Declared.{U8, Bytes, TextDeclared, SeatDeclared, Declared}
+use Rattle.start_back.specs.Declared.{Bytes, TextDeclared, SeatDeclared, Declared}
 use Rattle.start_back.proofs.Small.{no-bytes, one-more, append-bytes}
-use Rattle.codes.specs.Blocks.{codesWrong}
-use Rattle.ending.specs.End.{initiatorWrong, endWrong}
 use Rattle.ser.specs.Write.{file, judged, refusal}
 use Rattle.ser.proofs.Outcomes.{numbered-eleven}
 use Rattle.saved_again.specs.Admitted.{Somebody, Admitted}
+use Rattle.ser.proofs.Opens.{opens-judged}
 
 -- ---- a text of two letters, and seats
 
@@ -246,7 +239,7 @@ late-stores =
     (template 137 71 550) [] (0x55 ∷ 1 ∷ 0x61 ∷ 0x6c ∷ 0 ∷ 0 ∷ 0 ∷ 7 ∷ [])
 
 accepted : (lowest (judged early early-stores) ≡ 0) × (lowest (judged late late-stores) ≡ 0)
-unfolding judged refusals lowest oneOf tooMany storesMisfit misfits cellsExceed exceeds blocksExceed columnsExceed offsetsMislead misleads strays leftOver falls presenceWrong portsUneven portUneven uneven portsWrong portNumbers twice slotsOf slotsFrom portsOf portSlots portBytes tabulate keep sum chosen columnsOf hasFamily acceptedOf above gteOf blockWrong lengthOf reached badStart badSeat fieldMissing typeAbove2 cpuWithoutLevel textTooLong textHoldsZero missing tooLong holdsZero zeroInside codesWrong endWrong initiatorWrong
+unfolding opens-judged fieldMissing typeAbove2 cpuWithoutLevel textTooLong textHoldsZero
 accepted = (refl, refl)
 
 ids-fit : (i : ℕ) → getD (4294967173 ∷ 4294967174 ∷ []) i 0 < 2 ^ 32

@@ -5,14 +5,15 @@ use mathlib.Core.Path.{_≡_}
 use mathlib.Core.Bool.{true, false, cond, _&&_}
 use lib.ListN.{getD}
 use Rattle.wire.specs.Wire.{keep}
+use Rattle.format.specs.Version.{hasInitiator, hasPlacements}
 use Rattle.format.specs.Mark.{yes}
 use Rattle.format.specs.declared.version.Version.{Version}
+use Rattle.game.specs.Zero.{noEnd}
 use Rattle.game.specs.Stores.{Stores}
 use Rattle.game.specs.declared.Game.{Game}
 use Rattle.game.specs.declared.end.End.{End}
-use Rattle.ending.specs.End.{hasInitiator, hasPlacements}
 use Rattle.start_back.specs.Returned.{StartReturned}
-use Rattle.outline.specs.End.{fourZeros, noEnd}
+use Rattle.outline.specs.End.{fourZeros}
 use Rattle.read_back.specs.Returned as frames
 
 -- whether port i is placed in an end, and where

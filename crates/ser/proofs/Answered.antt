@@ -6,14 +6,14 @@
 --
 -- Assumes nothing.
 use mathlib.Core.Path.{_≡_, sym, ap, _∙_}
-use mathlib.Core.Bool.{Bool, true, false}
+use mathlib.Core.Bool.{false}
 use mathlib.Core.List.{List, [], _∷_, _++_}
 use Prim.Native.Nat.{ℕ, zero, suc, _+_, _-_, _≤_, _<_}
 use native.Mathlib.Omega.{arith}
 use borrow.Author.Tests.{ltb-false}
 use lib.Dec.{leb, ltb}
-use lib.ListN.{length, take, drop}
-use lib.Seq.{take-append-seam, take-take}
+use lib.ListN.{length, take}
+use lib.Seq.{take-append-seam}
 use Rattle.wire.specs.Wire.{number, part, splice}
 use Rattle.wire.proofs.Laws.{splice-is}
 use Rattle.format.specs.File.{tableBytes, eventsBytes}

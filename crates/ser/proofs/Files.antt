@@ -1,20 +1,16 @@
 -- The file of a game: its parts, and the length field.
 -- Assumes nothing.
-use mathlib.Core.Path.{_≡_, refl, sym, ap, ap₂, _∙_}
-use mathlib.Core.Bool.{Bool, true, false, cond}
-use mathlib.Core.List.{List, [], _∷_, _++_, append-assoc}
-use Prim.Native.Nat.{ℕ, _+_, _*_, _≤_, _<_}
-use native.Mathlib.Nat.{add-assoc}
+use mathlib.Core.Path.{_≡_, ap, ap₂, _∙_}
+use mathlib.Core.Bool.{true}
+use mathlib.Core.List.{List, _++_, append-assoc}
+use Prim.Native.Nat.{ℕ, _+_, _*_}
 use native.Mathlib.Omega.{arith}
-use lib.ListN.{length, getD, length-append}
+use lib.ListN.{length, length-append}
 use Rattle.wire.specs.Wire.{be}
-use Rattle.format.specs.Event.{codeOf, signature}
+use Rattle.format.specs.Event.{signature}
 use Rattle.format.specs.File.{tableBytes, eventBytes, eventsBytes, fileOf}
 use Rattle.format.specs.Mark.{yes}
-use Rattle.format.specs.declared.event.Event.the-variants.{GameStart}
 use Rattle.format.proofs.Files.{events-cons, events-append}
-use Rattle.layout.specs.declared.columns.Family.{Family}
-use Rattle.layout.specs.declared.columns.Family.the-variants.{Item, FodPlatform, DreamlandWhispy, StadiumTransformation}
 use Rattle.game.specs.Stores.{Lent, Stores}
 use Rattle.frames.specs.Inner.{Accepted}
 use Rattle.game.specs.declared.frames.Frames.{Frames}

@@ -1,12 +1,10 @@
 -- The laws of judging a game.
 -- Assumes nothing.
 use mathlib.Core.Path.{_≡_, sym, ap, ap₂, _∙_}
-use mathlib.Core.Bool.{Bool, true}
+use mathlib.Core.Bool.{Bool}
 use mathlib.Core.List.{List, _++_}
-use Prim.Native.Nat.{ℕ, _≤_, _<_}
-use native.Mathlib.Omega.{arith}
-use borrow.Author.Tests.{lt-ltb, le-ltb, eq-eqb, ne-eqb}
-use lib.Dec.{ltb}
+use Prim.Native.Nat.{ℕ}
+use borrow.Author.Tests.{eq-eqb, ne-eqb}
 use lib.ListN.{length}
 use Rattle.format.specs.Refusal.{Refusal, lowest}
 use Rattle.format.specs.declared.version.Version.{Version}
@@ -15,7 +13,6 @@ use Rattle.game.specs.Stores.{Lent}
 use Rattle.game.specs.declared.frames.Frames.{Frames}
 use Rattle.format.proofs.Refusals.{Numbered, lowest-after, lowest-before}
 use Rattle.codes.specs.Blocks.{codesWrong}
-use Rattle.start.specs.Length.{lengthOf}
 use Rattle.ser.specs.Write.{givenBytes}
 
 -- ---- one test after another

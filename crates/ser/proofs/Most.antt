@@ -1,6 +1,6 @@
 -- The length field always fits its four bytes.
 -- Assumes nothing.
-use mathlib.Core.Path.{_≡_, refl, sym, ap, _∙_}
+use mathlib.Core.Path.{_≡_, refl}
 use mathlib.Core.Bool.{Bool, true, false, cond}
 use mathlib.Core.List.{List, [], _∷_, map}
 use Prim.Native.Nat.{ℕ, _+_, _*_, _≤_, _<_}
@@ -9,7 +9,7 @@ use native.Mathlib.Omega.{arith}
 use lib.Dec.{lit≤}
 use lib.ListN.{length}
 use Rattle.format.specs.declared.version.Version.{Version}
-use Rattle.layout.specs.Columns.{chosen, columnsOf, widthsOf, sum, hasFamily}
+use Rattle.layout.specs.Columns.{chosen, columnsOf, sum, hasFamily}
 use Rattle.layout.proofs.Laws.{each}
 use Rattle.layout.specs.Payloads.{headSize, recordSize, endSize, entriesOf}
 use Rattle.layout.specs.declared.columns.Column.{Column}

@@ -6,7 +6,7 @@ use mathlib.Core.List.{List, [], _∷_, _++_}
 use Prim.Native.Nat.{ℕ, zero, suc, _+_, _*_, _≤_, _<_}
 use native.Mathlib.Nat.{suc-mul, zero-mul}
 use native.Mathlib.Omega.{arith}
-use borrow.Author.Tests.{lt-ltb, le-ltb, ltb-false}
+use borrow.Author.Tests.{lt-ltb, le-ltb}
 use lib.Dec.{ltb, lit<}
 use lib.ListN.{length, length-append}
 use Rattle.wire.specs.Wire.{Wrote}
@@ -14,19 +14,15 @@ use Rattle.wire.proofs.Laws.{length-be}
 use Rattle.format.specs.File.{tableBytes, eventsBytes, fileOf}
 use Rattle.format.specs.Mark.{yes}
 use Rattle.format.specs.Refusal.{refuse, lowest}
-use Rattle.format.specs.declared.version.Version.{Version}
 use Rattle.format.proofs.Refusals.{Numbered, here, skip, none, passed, lowest-after, lowest-first}
-use Rattle.format.proofs.Tests.{or-none}
 use Rattle.game.specs.Frames.{Slot}
 use Rattle.frames.specs.Judge.{refusals}
 use Rattle.players.specs.Presence.{presentAt, playersPresent}
 use Rattle.frames.specs.Inner.{Accepted}
 use Rattle.frames.proofs.Accepted.{numbered, accepted, few-bytes}
 use Rattle.players.proofs.PresenceLaws.{count-most}
-use Rattle.start.specs.Length.{lengthOf}
 use Rattle.start.specs.Refusal.{blockWrong, badStart}
 use Rattle.codes.specs.Blocks.{codesWrong}
-use Rattle.ending.specs.End.{endWrong}
 use Rattle.ending.specs.Tail.{tailOf}
 use Rattle.ending.proofs.Lengths.{length-tail}
 use Rattle.game.specs.declared.Game.{Game}

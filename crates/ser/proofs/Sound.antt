@@ -2,16 +2,14 @@
 -- is the number of bytes from the table through the last event.
 -- Assumes nothing.
 use mathlib.Core.Path.{_≡_, refl, sym, ap, _∙_}
-use mathlib.Core.Bool.{Bool, true, false}
-use mathlib.Core.List.{List, [], _∷_, _++_}
-use Prim.Native.Nat.{ℕ, _+_, _≤_, _<_}
+use mathlib.Core.List.{[], _∷_, _++_}
+use Prim.Native.Nat.{_≤_, _<_}
 use native.Mathlib.Omega.{arith}
 use lib.Dec.{lit<}
 use lib.ListN.{length}
-use lib.Seq.{drop-at, take-at}
+use lib.Seq.{take-at}
 use Rattle.wire.specs.Wire.{be, number, part}
 use Rattle.wire.proofs.Laws.{length-be, number-be}
-use Rattle.format.specs.Event.{codeOf, signature}
 use Rattle.format.specs.File.{tableBytes, eventsBytes, fileOf, Fresh, Listed}
 use Rattle.format.specs.Mark.{yes}
 use Rattle.format.specs.declared.event.Event.the-variants as event
@@ -27,7 +25,6 @@ use Rattle.events.proofs.Sizes.{listed-frames}
 use Rattle.game.specs.declared.Game.{Game}
 use Rattle.game.specs.Stores.{Stores}
 use Rattle.ser.specs.Write.{entries, startEvent, events, file}
-use Rattle.ser.specs.Length.{rawLength}
 use Rattle.ser.proofs.Files.{framed, length-raw}
 use Rattle.ser.proofs.Outcomes.{Passed}
 use Rattle.start.proofs.Refusals.{block-fits}

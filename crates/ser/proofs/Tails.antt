@@ -2,7 +2,7 @@
 -- is zero; and what is refused does not depend on the way. The tail is what stands after the id's zero, through byte 751 of the start block.
 -- Assumes nothing.
 use mathlib.Core.Path.{_≡_, refl, sym, ap, ap₂, _∙_}
-use mathlib.Core.Bool.{Bool, true, false}
+use mathlib.Core.Bool.{true}
 use mathlib.Core.List.{List, [], _∷_, _++_}
 use Prim.Native.Nat.{ℕ, _+_, _-_, _≤_, _<_}
 use native.Mathlib.Omega.{arith}
@@ -12,19 +12,17 @@ use Rattle.wire.specs.Wire.{part}
 use Rattle.format.specs.File.{tableBytes, eventsBytes}
 use Rattle.format.specs.Refusal.{Refusal, refuse, lowest}
 use Rattle.start.specs.Gate.{reaches, matchFrom}
-use Rattle.start.specs.Length.{lengthOf}
 use Rattle.start.specs.Refusal.{badStart}
 use Rattle.start.specs.Block.{startBlock}
 use Rattle.start.proofs.Blocks.{length-start-block}
 use Rattle.start.proofs.Lengths.{long-enough}
-use Rattle.start.proofs.Refusals.{block-fits, short-text, good-start}
-use Rattle.start.proofs.Views as views
+use Rattle.start.proofs.Refusals.{short-text, good-start}
 use Rattle.start.proofs.Tails as tails
 use Rattle.patch.proofs.Positions.{inside-same}
 use Rattle.game.specs.Stores.{Stores}
 use Rattle.game.specs.declared.Game.{Game}
 use Rattle.ser.specs.Write.{entries, events, file, judged, refusal}
-use Rattle.ser.specs.Inner.{frontBytes, restBytes}
+use Rattle.ser.specs.Inner.{restBytes}
 use Rattle.ser.proofs.Files.{inParts, file-parts, length-events}
 use Rattle.ser.proofs.Outcomes.{Passed}
 use Rattle.ser.proofs.Viewed.{blockPlace, front, rest, length-front, in-file}

@@ -5,25 +5,21 @@
 -- The start block is the payload of the first event, so it stands one byte after the table's end. `Passed g s` says that refusals 1 to 10 do not apply;
 -- the arrays have the lengths that their types say: four seats, 50 bytes a text.
 -- Assumes nothing.
-use mathlib.Core.Path.{_≡_, sym, ap, _∙_}
+use mathlib.Core.Path.{_≡_}
 use mathlib.Core.Bool.{true}
-use mathlib.Core.List.{List, [], _∷_, _++_}
+use mathlib.Core.List.{List, _++_}
 use Prim.Native.Nat.{ℕ, _+_, _≤_, _<_}
 use native.Mathlib.Omega.{arith}
 use lib.ListN.{length, take, getD, length-append}
 use Rattle.wire.specs.Wire.{be, part}
 use Rattle.wire.proofs.Laws.{length-be}
-use Rattle.format.specs.Event.{codeOf, signature}
 use Rattle.format.specs.File.{tableBytes, eventsBytes}
 use Rattle.format.specs.Mark.{yes}
-use Rattle.format.specs.declared.event.Event.the-variants.{GameStart}
-use Rattle.format.specs.declared.version.Version.{Version}
 use Rattle.format.proofs.Files.{length-table}
 use Rattle.head.specs.Table.{firstPlace}
 use Rattle.patch.specs.Field.{text, readAt}
 use Rattle.game.specs.Zero.{noSeat}
 use Rattle.game.specs.Stores.{Stores}
-use Rattle.game.specs.declared.start.Seat.{Seat}
 use Rattle.game.specs.declared.Game.{Game}
 use Rattle.patch.proofs.Positions.{Fills}
 use Rattle.start.specs.Block.{fields}

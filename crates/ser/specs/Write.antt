@@ -2,7 +2,7 @@
 -- Assumes nothing.
 use Prim.Native.Nat.{ℕ, zero, suc}
 use mathlib.Core.Path.{_≡_}
-use mathlib.Core.Bool.{Bool, cond, _||_}
+use mathlib.Core.Bool.{cond}
 use mathlib.Core.List.{List, [], _∷_, _++_}
 use lib.Dec.{ltb}
 use lib.ListN.{length}
@@ -11,7 +11,6 @@ use Rattle.format.specs.Event.{codeOf}
 use Rattle.format.specs.File.{Entry, Ev, fileOf}
 use Rattle.format.specs.Refusal.{Refusal, refuse, lowest}
 use Rattle.format.specs.declared.event.Event.the-variants.{GameStart}
-use Rattle.format.specs.declared.version.Version.{Version}
 use Rattle.layout.specs.Payloads.{entriesOf}
 use Rattle.game.specs.Stores.{Stores}
 use Rattle.frames.specs.Judge.{refusals}

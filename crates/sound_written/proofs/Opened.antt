@@ -1,6 +1,6 @@
 -- What `read` takes passes the check, given document 01's table and a proper tail.
 -- Assumes nothing.
-use Prim.Native.Nat.{ℕ, zero, suc, _+_, _*_, _/_, _%_, _≤_, _<_}
+use Prim.Native.Nat.{ℕ, zero, suc, _+_, _/_, _%_, _≤_}
 use mathlib.Core.Path.{_≡_, refl, sym, ap, subst, _∙_}
 use mathlib.Core.Bool.{Bool, true, false, cond, not, _&&_, _||_}
 use mathlib.Core.List.{List, [], _∷_, _++_}
@@ -12,7 +12,7 @@ use lib.ListN.{length, getD, drop}
 use Rattle.wire.specs.Wire.{tabulate}
 use Rattle.wire.proofs.Laws.{tabulate-length, tabulate-at}
 use Rattle.format.specs.Event.{codeOf}
-use Rattle.format.specs.File.{Entry, Ev, tableBytes, eventsBytes}
+use Rattle.format.specs.File.{Ev, tableBytes, eventsBytes}
 use Rattle.format.specs.Mark.{yes as marked}
 use Rattle.format.specs.Refusal.{refuse}
 use Rattle.format.specs.Version.{acceptedOf, gteOf}
@@ -40,7 +40,7 @@ use Rattle.found.specs.declared.first.First.the-variants.{Opens, Other}
 use Rattle.judging.specs.Inner.{WalkDone, Headed}
 use Rattle.judging.proofs.Laws as laws
 use Rattle.reading.specs.Game.{Kept, codesMark}
-use Rattle.reading.specs.Read.{openedIn, ReadOutcome, early, none, big, short, found}
+use Rattle.reading.specs.Read.{ReadOutcome, early, none, big, short, found}
 use Rattle.reading.specs.declared.Opened.{Opened}
 use Rattle.sound_files.proofs.Read.{tail-is}
 use Rattle.sound_files.proofs.Whole as file

@@ -2,14 +2,14 @@
 -- Assumes nothing.
 use mathlib.Core.Path.{_≡_, refl}
 use mathlib.Core.Bool.{true, false}
-use mathlib.Core.List.{List, [], _∷_, map}
+use mathlib.Core.List.{[], _∷_, map}
 use lib.ListN.{replicate}
 use Rattle.format.specs.Version.{version, above, gteOf}
 use Rattle.start.specs.Length.{reached, lengthOf}
 use Rattle.format.specs.Refusal.{oneOf}
 use Rattle.start.specs.Refusal.{blockWrong, missing, tooLong, holdsZero, fieldMissing, typeAbove2, cpuWithoutLevel, textTooLong, textHoldsZero, badSeat, badStart}
 use Rattle.game.specs.Zero.{seatWith}
-use Rattle.patch.specs.Field.{text, zeroFilled, isZero, zeroInside, readText}
+use Rattle.patch.specs.Field.{zeroFilled, zeroInside, readText}
 use Rattle.game.specs.declared.start.Text.{Text}
 use Rattle.game.specs.declared.start.Seat.{Seat}
 use Rattle.start.proofs.Samples.{letters, zeroAt, netplay, netplayOf, playerOf, player, nobody, start, startOf}

@@ -1,6 +1,6 @@
 -- What a viewer reads in a start block: the texts that were given.
 -- Assumes nothing.
-use mathlib.Core.Path.{_≡_, refl, sym, ap, _∙_}
+use mathlib.Core.Path.{_≡_, sym, ap, _∙_}
 use mathlib.Core.Bool.{Bool, true, false}
 use mathlib.Core.List.{List, [], _∷_, _++_, map}
 use Prim.Native.Nat.{ℕ, zero, suc, _+_, _*_, _-_, _≤_, _<_}
@@ -21,7 +21,7 @@ use Rattle.game.specs.declared.start.MatchTail.the-variants.{Cleared, Kept}
 use Rattle.game.specs.MatchTails.{matchTailOf}
 use Rattle.game.specs.declared.start.Start.{Start}
 use Rattle.patch.specs.Patch.{Patch, patch, patched}
-use Rattle.patch.specs.Field.{flagOf, text, zeroFilled, zeroInside, readText, readAt}
+use Rattle.patch.specs.Field.{text, zeroFilled, zeroInside, readText, readAt}
 use Rattle.patch.proofs.Positions.{Misses, misses-append, misses-kept, Clear, part-inside, Fills, fills-after, fills-before, fills-kept}
 use Rattle.patch.proofs.Viewed.{filled-within, fills-text, read-filled, read-further}
 use Rattle.patch.proofs.Patches.{length-patched, ended}

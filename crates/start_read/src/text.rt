@@ -27,7 +27,7 @@ pub fn text_at(block: &[u8], at: usize, limit: usize) -> Text
     Text { bytes, len: i }
 }
 
-// The same where the version has it; otherwise no text.
+// The text from `at` on where the version has it; otherwise no text.
 pub fn text_if(block: &[u8], v: Version, g: Gate, at: usize, limit: usize) -> Text
     requires { ⌜ (limit ≤ 50) × (reaches v g ≡ true → at + limit ≤ length (now block)) ⌝ }
     ensures { λ r. ⌜ r ≡ textIf (reaches v g) (now (block .entry)) at limit ⌝ }

@@ -7,17 +7,14 @@ use mathlib.Core.List.{List, [], _∷_, _++_, map}
 use Prim.Native.Nat.{ℕ, zero, suc, _+_, _-_, _*_}
 use lib.IntN.{ℤ, pos, negsuc}
 use lib.ListN.{length, getD, replicate}
-use Rattle.wire.specs.Wire.{keep, tabulate}
-use Rattle.format.specs.Version.{version, above, gteOf, acceptedOf}
-use Rattle.format.specs.Refusal.{lowest, oneOf}
+use Rattle.format.specs.Version.{version}
 use Rattle.format.specs.declared.version.Version.{Version}
-use Rattle.layout.specs.Columns.{columnsOf, chosen, sum, hasFamily, widthsOf}
+use Rattle.layout.specs.Columns.{hasFamily, widthsOf}
 use Rattle.layout.specs.declared.columns.Family.{Family}
 use Rattle.layout.specs.declared.columns.Family.the-variants as family
-use Rattle.game.specs.Frames.{portsOf, portSlots, portBytes, slotsFrom, slotsOf}
 use Rattle.game.specs.Stores.{Lent, cells, offsets, lent}
-use Rattle.frames.specs.Judge.{tooMany, misfits, storesMisfit, columnsExceed, blocksExceed, exceeds, cellsExceed, falls, strays, leftOver, misleads, offsetsMislead, portNumbers, twice, portsWrong, refusals}
-use Rattle.players.specs.Presence.{marked, uneven, portUneven, portsUneven, presenceWrong}
+use Rattle.frames.specs.Judge.{refusals}
+use Rattle.players.specs.Presence.{marked}
 use Rattle.game.specs.declared.frames.PortColumn.{PortColumn}
 use Rattle.game.specs.declared.frames.Frames.{Frames}
 use Rattle.rows.specs.Cells.{firstCells}
@@ -32,6 +29,7 @@ use Rattle.transpose.specs.declared.frame.Frame.{Frame}
 use Rattle.transpose.specs.declared.frame.PortData.{PortData}
 use Rattle.transpose.specs.declared.records.PreRow.{PreRow}
 use Rattle.transpose.specs.declared.records.ItemRow.{ItemRow}
+use Rattle.frames.proofs.Opens.{opens-refusals}
 
 -- from, from + 1, .., n of them
 up : ℕ → ℕ → List ℕ
@@ -267,7 +265,7 @@ cases =
     ++ (map (λ (r : Row). plain (r .version) (post 1 1) (numbers 0 (r .version) (1 ∷ bitsOf r))) posts ++ others)
 
 computed : map (λ (c : Case). shown (game (c .version) (c .count)) (stores (c .version) (c .cells) (c .offsets)) (c .ask)) cases ≡ map (λ (c : Case). c .answer) cases
-unfolding cases pres posts twos others joined shown unlessRefused rowRefusal outside markAt marked firstCells portAt rangeAt lowest refusals acceptedOf above gteOf columnsOf chosen sum hasFamily keep tabulate portsOf portSlots portBytes slotsFrom slotsOf oneOf tooMany misfits storesMisfit columnsExceed blocksExceed exceeds cellsExceed falls strays leftOver misleads offsetsMislead uneven portUneven portsUneven presenceWrong portNumbers twice portsWrong up
+unfolding opens-refusals cases pres posts twos others joined shown unlessRefused rowRefusal outside markAt marked firstCells portAt rangeAt up
 computed = refl
 
 -- the whole rows of the first and the third of the others

@@ -96,7 +96,7 @@ pub fn report(input: &[u8], out: &mut [u8]) -> usize
     put_line(out, w)
 }
 
-// The same of what was read into a buffer, its first n bytes. The buffer has room for a byte more than an input may have, so that an input
+// Puts the line of an input that was read into a buffer, its first n bytes. The buffer has room for a byte more than an input may have, so that an input
 // which is too long is seen to be, and one that is not is there to its end.
 pub fn report_read(buffer: &[u8], n: usize, out: &mut [u8]) -> usize
     requires { ⌜ 65536 < length (now buffer) ⌝ }

@@ -3,9 +3,6 @@ use mathlib.Core.Path.{_∙_, sym, ap}
 use Rattle.answers.specs.Answers.{stepped}
 use Rattle.answers.proofs.step_numbers.Statement.{statement}
 use Rattle.answers.proofs.step_numbers.Tie as tie
-use Rattle.answers.proofs.step_numbers.Reads as reads
-use Rattle.answers.proofs.step_numbers.Lts as lts
-use Rattle.answers.proofs.bare.Reads as bare-reads
 
 -- src/answers.rt:57:13
 enum-known-s : tie.Need-enum-known-s

@@ -1,12 +1,9 @@
 use Rattle.answers.proofs.Laws.{walk-done}
-use mathlib.Core.Path.{_∙_, sym, ap}
+use mathlib.Core.Path.{sym, ap}
 use Rattle.answers.specs.Answers.{walked}
 use borrow.Author.Needs.{needs}
 use Rattle.answers.proofs.walk_numbers.Statement.{statement}
 use Rattle.answers.proofs.walk_numbers.Tie as tie
-use Rattle.answers.proofs.walk_numbers.Reads as reads
-use Rattle.answers.proofs.walk_numbers.Lts as lts
-use Rattle.answers.proofs.mark.Reads as mark-reads
 
 -- src/answers.rt:90:13
 enum-known-w : tie.Need-enum-known-w

@@ -1,10 +1,8 @@
-use mathlib.Core.Path.{_∙_, sym, ap}
+use mathlib.Core.Path.{sym, ap}
 use Rattle.answers.specs.Answers.{written}
 use borrow.Author.Needs.{needs}
 use Rattle.answers.proofs.written_numbers.Statement.{statement}
 use Rattle.answers.proofs.written_numbers.Tie as tie
-use Rattle.answers.proofs.written_numbers.Reads as reads
-use Rattle.answers.proofs.written_numbers.Lts as lts
 
 -- src/answers.rt:110:23
 enum-known-w : tie.Need-enum-known-w

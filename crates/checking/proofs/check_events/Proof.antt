@@ -54,23 +54,29 @@ is-sound-requires c κs =
 
 check-tail-requires : tie.Need-check-tail-requires
 check-tail-requires c κs =
-    let s = c .before .before .before .before .before .before .before .before .before .before .before in
+    let c6 = c .before .before .before .before .before .before in
+    let s = c6 .before .before .before .before .before in
     let a = s .args in
-    let e = c .before .before .before .before .before .before .before .before .first-event in
-    let o = c .before .before .before .before .before .before .e .given in
+    let e = c6 .before .before .first-event in
+    let o = c6 .e .given in
     let x = c .before .before .before .before .accepted in
-    let r = c .before .is-sound in
-    (events-sound (a .file .now) (a .spans .now) (a .first) (a .stop) (a .whole) (s .pre) (not-left (a .whole) (c .before .before .if2 .left)) (o .0 .0) (o .0 .1 .0) (e .result) (e .ensures) (o .1) (sym (x .ensures) ∙ not-left (x .result) (c .before .before .before .if1 .left)) (r .result) (r .ensures) (c .if3 .taken), s .pre .stop-is)
+    let r = c .before .is-sound in (
+      events-sound (a .file .now) (a .spans .now) (a .first) (a .stop) (a .whole) (s .pre) (not-left (a .whole) (c .before .before .if2 .left)) (o .0 .0) (o .0 .1 .0)
+          (e .result) (e .ensures) (o .1) (sym (x .ensures) ∙ not-left (x .result) (c .before .before .before .if1 .left)) (r .result) (r .ensures) (c .if3 .taken),
+      s .pre .stop-is,
+    )
 
 unless-walk-refused-requires-4 : tie.Need-unless-walk-refused-requires-4
 unless-walk-refused-requires-4 c κs k =
-    let s = c .before .before .before .before .before .before .before .before .before .before .before in
+    let c6 = c .before .before .before .before .before .before in
+    let s = c6 .before .before .before .before .before in
     let a = s .args in
-    let e = c .before .before .before .before .before .before .before .before .first-event in
-    let o = c .before .before .before .before .before .before .e .given in
+    let e = c6 .before .before .first-event in
+    let o = c6 .e .given in
     let x = c .before .before .before .before .accepted in
     let r = c .before .is-sound in
-    events-wrong (a .file .now) (a .spans .now) (a .first) (a .stop) (a .whole) (s .pre) (not-left (a .whole) (c .before .before .if2 .left)) (o .0 .0) (o .0 .1 .0) (e .result) (e .ensures) (o .1) (sym (x .ensures) ∙ not-left (x .result) (c .before .before .before .if1 .left)) (r .result) (r .ensures) (c .if3 .left) k
+    events-wrong (a .file .now) (a .spans .now) (a .first) (a .stop) (a .whole) (s .pre) (not-left (a .whole) (c .before .before .if2 .left)) (o .0 .0) (o .0 .1 .0)
+    (e .result) (e .ensures) (o .1) (sym (x .ensures) ∙ not-left (x .result) (c .before .before .before .if1 .left)) (r .result) (r .ensures) (c .if3 .left) k
 
 pub check-events-spec : {M : Type 1} → statement M
 check-events-spec =

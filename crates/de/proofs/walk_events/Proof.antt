@@ -1,7 +1,7 @@
 -- `de::walk_events` meets its contract. The invariant: from here on the run stops where it did from the start.
 -- Assumes nothing.
 use Prim.Native.Nat.{_≤_, _<_, _-_, _+_, suc}
-use mathlib.Core.Path.{_≡_, refl, sym, _∙_}
+use mathlib.Core.Path.{_≡_, sym, _∙_}
 use native.Mathlib.Nat.{sub-zero, zero-add, add-zero}
 use native.Mathlib.Omega.{arith}
 use borrow.Author.Needs.{needs}

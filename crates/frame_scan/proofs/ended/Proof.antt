@@ -3,9 +3,6 @@
 use Rattle.frame_scan.proofs.Turns.{ends-here, ends-not}
 use Rattle.frame_scan.proofs.ended.Statement.{statement}
 use Rattle.frame_scan.proofs.ended.Tie as tie
-use Rattle.frame_scan.proofs.ended.Reads as reads
-use Rattle.frame_scan.proofs.ended.Lts as lts
-use Rattle.frame_order.proofs.place.is_closed.Reads as is-closed-reads
 
 is-closed-requires : tie.Need-is-closed-requires
 is-closed-requires c κs = tt

@@ -12,26 +12,12 @@ use Rattle.frame_scan.proofs.Turns.{turn-end, turn-other, turn-refused,
 use Rattle.frame_scan.specs.declared.event.Turn.the-variants.{Goes, Refused}
 use Rattle.frame_scan.proofs.frames.Statement.{statement}
 use Rattle.frame_scan.proofs.frames.Tie as tie
-use Rattle.frame_scan.proofs.frames.Reads as reads
-use Rattle.frame_scan.proofs.frames.Lts as lts
-use Rattle.frame_scan.proofs.alike.goes_on.Reads as goes-on-reads
-use Rattle.frame_scan.proofs.ended.Reads as ended-reads
-use Rattle.frame_scan.proofs.event.kind_of.Reads as kind-of-reads
-use Rattle.frame_scan.proofs.event.span_of.Reads as span-of-reads
-use Rattle.frame_scan.proofs.event.try_event.Reads as try-event-reads
-use Rattle.frame_scan.proofs.leap.begins.Reads as begins-reads
-use Rattle.frame_scan.proofs.leap.leapt.Reads as leapt-reads
-use Rattle.frame_scan.proofs.outset.Reads as outset-reads
-use Rattle.frame_scan.proofs.sizes.sizes_of.Reads as sizes-of-reads
-use Rattle.frame_scan.proofs.tally.counted.Reads as counted-reads
-use Rattle.frame_scan.proofs.tally.nothing.Reads as nothing-reads
-use Rattle.layout.proofs.payloads.record_size.Reads as record-size-reads
 
 abbrev Inv-loop : tie.InvT-loop
-Inv-loop file spans v any first stop sizes span m₀ at₀ last₀ tally₀ m at last tally = Turned v (orderOf any) file spans stop span first m at tally last
+Inv-loop file spans v order first stop sizes span m₀ at₀ last₀ tally₀ m at last tally = Turned v (orderOf order) file spans stop span first m at tally last
 
 abbrev μ-loop : tie.MeasureT-loop
-μ-loop file spans v any first stop sizes span m₀ at₀ last₀ tally₀ m at last tally = stop - at
+μ-loop file spans v order first stop sizes span m₀ at₀ last₀ tally₀ m at last tally = stop - at
 
 sizes-of-requires : tie.Need-sizes-of-requires Inv-loop μ-loop
 sizes-of-requires c κs = tt
@@ -50,9 +36,10 @@ nothing-requires c κs = tt
 
 loop-holds : tie.Need-loop-holds Inv-loop μ-loop
 loop-holds c =
-    let a = c .before .before .before .before .before .before .args in
-    let h = c .before .before .before .before .before .before .pre in
-    turned-first (a .v) (orderOf (a .any)) (a .file .now) (a .spans .now) (a .stop) _ (a .first) (h .0) (h .1) (ap (λ n. 1 + n) (c .before .before .record-size .ensures .0)) (c .before .outset .result) (c .before .outset .ensures)
+    let c6 = c .before .before .before .before .before .before in
+    let a = c6 .args in
+    let h = c6 .pre in
+    turned-first (a .v) (orderOf (a .order)) (a .file .now) (a .spans .now) (a .stop) _ (a .first) (h .0) (h .1) (ap (λ n. 1 + n) (c .before .before .record-size .ensures .0)) (c .before .outset .result) (c .before .outset .ensures)
     (c .nothing .result) (c .nothing .ensures)
 
 shared-slice-read-code : tie.Need-shared-slice-read-code Inv-loop μ-loop
@@ -68,10 +55,16 @@ leapt-requires c κs =
     (e .later, omega (arith, e .fits, t .turning .asked .long), t .turning .under)
 
 add-last : tie.Need-add-last Inv-loop μ-loop
-add-last c = let t = c .before .before .before .before .before .before .before .before .loop .inv in omega (arith, c .before .before .before .before .before .goes-on .ensures (c .before .before .before .before .if1 .taken) .1 .fits, t .turning .asked .long, t .behind, c .before .before .before .leapt .ensures .2, c .before .before .before .before .before .before .before .before .before .before .before .before .before .before .before .good)
+add-last c =
+    let c5 = c .before .before .before .before .before in
+    let c15 = c5 .before .before .before .before .before .before .before .before .before .before in
+    let t = c5 .before .before .before .loop .inv in omega (arith, c5 .goes-on .ensures (c .before .before .before .before .if1 .taken) .1 .fits, t .turning .asked .long, t .behind, c .before .before .before .leapt .ensures .2, c15 .good)
 
 add-at : tie.Need-add-at Inv-loop μ-loop
-add-at c = let t = c .before .before .before .before .before .before .before .before .before .loop .inv in omega (arith, c .before .before .before .before .before .before .goes-on .ensures (c .before .before .before .before .before .if1 .taken) .1 .fits, t .turning .asked .long, c .before .before .before .before .leapt .ensures .2, c .before .before .before .before .before .before .before .before .before .before .before .before .before .before .before .before .good)
+add-at c =
+    let c5 = c .before .before .before .before .before in
+    let c16 = c5 .before .before .before .before .before .before .before .before .before .before .before in
+    let t = c5 .before .before .before .before .loop .inv in omega (arith, c5 .before .goes-on .ensures (c5 .if1 .taken) .1 .fits, t .turning .asked .long, c .before .before .before .before .leapt .ensures .2, c16 .good)
 
 loop-less : tie.Need-loop-less Inv-loop μ-loop
 loop-less c = let e = c .before .before .before .before .before .before .goes-on .ensures (c .before .before .before .before .before .if1 .taken) .1 in omega (arith, e .fits, e .later, c .before .before .before .before .leapt .ensures .2)
@@ -82,7 +75,7 @@ loop-again c =
     let l = c .before .before .before .before .before .before .before .before .before .loop in
     let g = c .before .before .before .before .before .before .goes-on .ensures (c .before .before .before .before .before .if1 .taken) in
     let r = c .before .before .before .before .leapt in
-    turned-leaps (a .v) (orderOf (a .any)) (a .file .now) (a .spans .now) (a .stop) _ (a .first) (l .m) (l .at) (l .tally) (l .last) (l .inv) (g .0) (g .1) (r .result .place)
+    turned-leaps (a .v) (orderOf (a .order)) (a .file .now) (a .spans .now) (a .stop) _ (a .first) (l .m) (l .at) (l .tally) (l .last) (l .inv) (g .0) (g .1) (r .result .stage)
     (r .ensures .0) (r .result .tally) (r .ensures .1) (r .result .by) (r .ensures .2)
 
 kind-of-requires : tie.Need-kind-of-requires Inv-loop μ-loop
@@ -103,7 +96,7 @@ returns c =
     let l = c .before .before .before .before .before .before .before .before .loop in
     let code = getD (a .file .now) (l .at) 0 in
     let q =
-    turn-other (a .v) (orderOf (a .any)) (a .file .now) (a .spans .now) (a .stop) _ (a .first) (l .m) (l .at) (l .tally) (l .inv .turning) (c .before .before .before .before .before .before .before .loop-test .taken) code refl
+    turn-other (a .v) (orderOf (a .order)) (a .file .now) (a .spans .now) (a .stop) _ (a .first) (l .m) (l .at) (l .tally) (l .inv .turning) (c .before .before .before .before .before .before .before .loop-test .taken) code refl
     (sym (c .before .before .before .kind-of .ensures) ∙ c .before .enum-told .given .1) in
     (c .ended .ensures .0 ∙ q .0, c .ended .ensures .1 ∙ q .1)
 
@@ -114,7 +107,9 @@ slice-aggregate-try-event : tie.Need-slice-aggregate-try-event Inv-loop μ-loop
 slice-aggregate-try-event c = sym (ap length (c .before .before .before .before .before .before .before .before .before .before .before .before .before .before .sizes-of .ensures))
 
 try-event-requires : tie.Need-try-event-requires Inv-loop μ-loop
-try-event-requires c κs = (c .before .before .before .before .before .before .before .before .before .before .loop .inv .turning .asked, c .before .before .before .before .before .before .before .before .before .before .before .before .before .before .sizes-of .ensures, c .before .span-of .ensures .1)
+try-event-requires c κs =
+    let c10 = c .before .before .before .before .before .before .before .before .before .before in
+    (c10 .loop .inv .turning .asked, c10 .before .before .before .before .sizes-of .ensures, c .before .span-of .ensures .1)
 
 enum-told-2 : tie.Need-enum-told-2 Inv-loop μ-loop
 enum-told-2 c = search needs
@@ -128,9 +123,9 @@ returns-2 c =
     let kind = sym (c .before .before .before .before .before .before .before .before .kind-of .ensures) ∙ k .1 in
     let n = c .before .before .before .before .span-of in
     let e = c .before .before .try-event in
-    turn-refused (a .v) (orderOf (a .any)) (a .file .now) (a .spans .now) (a .stop) _ (a .first) (l .m) (l .at) (l .tally) (l .inv .turning) (c .before .before .before .before .before .before .before .before .before .before .before .before .loop-test .taken) code refl (k .0 .0) kind
+    turn-refused (a .v) (orderOf (a .order)) (a .file .now) (a .spans .now) (a .stop) _ (a .first) (l .m) (l .at) (l .tally) (l .inv .turning) (c .before .before .before .before .before .before .before .before .before .before .before .before .loop-test .taken) code refl (k .0 .0) kind
     (n .result) (n .ensures .0)
-    (tried-as (a .v) (orderOf (a .any)) (a .file .now) _ (a .stop) (l .m) (l .at) (n .result) (k .0 .0) (e .result) Refused (c .enum-told2 .given .1) (e .ensures))
+    (tried-as (a .v) (orderOf (a .order)) (a .file .now) _ (a .stop) (l .m) (l .at) (n .result) (k .0 .0) (e .result) Refused (c .enum-told2 .given .1) (e .ensures))
 
 enum-known-t : tie.Need-enum-known-t Inv-loop μ-loop
 enum-known-t c = search needs
@@ -144,7 +139,7 @@ counted-requires c κs =
     let e = c .before .before .before .try-event in
     let t = c .before .t .given in
     let g =
-    tried-as (a .v) (orderOf (a .any)) (a .file .now) _ (a .stop) (l .m) (l .at) (n .result) (k .0 .0) (e .result) (Goes (t .0 .0) (t .0 .1 .0) (t .0 .1 .1 .0)) (t .1) (e .ensures) in
+    tried-as (a .v) (orderOf (a .order)) (a .file .now) _ (a .stop) (l .m) (l .at) (n .result) (k .0 .0) (e .result) (Goes (t .0 .0) (t .0 .1 .0) (t .0 .1 .1 .0)) (t .1) (e .ensures) in
     (under-to (l .tally) (l .at) (2 ^ 64 - 2) (l .inv .turning .under) (omega arith), g .seated)
 
 begins-requires : tie.Need-begins-requires Inv-loop μ-loop
@@ -159,22 +154,26 @@ loop-less-2 c =
     let e = c .before .before .before .before .before .try-event in
     let t = c .before .before .before .t .given in
     let g =
-    tried-as (a .v) (orderOf (a .any)) (a .file .now) _ (a .stop) (l .m) (l .at) (n .result) (k .0 .0) (e .result) (Goes (t .0 .0) (t .0 .1 .0) (t .0 .1 .1 .0)) (t .1) (e .ensures) in
+    tried-as (a .v) (orderOf (a .order)) (a .file .now) _ (a .stop) (l .m) (l .at) (n .result) (k .0 .0) (e .result) (Goes (t .0 .0) (t .0 .1 .0) (t .0 .1 .1 .0)) (t .1) (e .ensures) in
     omega (arith, g .later, g .asked .under)
 
 loop-again-2 : tie.Need-loop-again-2 Inv-loop μ-loop
 loop-again-2 c =
-    let a = c .before .before .before .before .before .before .before .before .before .before .before .before .before .before .before .before .before .before .before .before .before .before .before .args in
-    let l = c .before .before .before .before .before .before .before .before .before .before .before .before .before .before .before .before .loop in
+    let c5 = c .before .before .before .before .before in
+    let c11 = c5 .before .before .before .before .before .before in
+    let c16 = c11 .before .before .before .before .before in
+    let c23 = c16 .before .before .before .before .before .before .before in
+    let a = c23 .args in
+    let l = c16 .loop in
     let code = getD (a .file .now) (l .at) 0 in
-    let k = c .before .before .before .before .before .before .before .before .before .k .given in
-    let kind = sym (c .before .before .before .before .before .before .before .before .before .before .before .kind-of .ensures) ∙ k .1 in
-    let n = c .before .before .before .before .before .before .before .span-of in
-    let e = c .before .before .before .before .before .try-event in
+    let k = c5 .before .before .before .before .k .given in
+    let kind = sym (c11 .kind-of .ensures) ∙ k .1 in
+    let n = c5 .before .before .span-of in
+    let e = c5 .try-event in
     let t = c .before .before .before .t .given in
     let g =
-    tried-as (a .v) (orderOf (a .any)) (a .file .now) _ (a .stop) (l .m) (l .at) (n .result) (k .0 .0) (e .result) (Goes (t .0 .0) (t .0 .1 .0) (t .0 .1 .1 .0)) (t .1) (e .ensures) in
-    turned-goes (a .v) (orderOf (a .any)) (a .file .now) (a .spans .now) (a .stop) _ (a .first) (l .m) (l .at) (l .tally) (l .last) (l .inv) (c .before .before .before .before .before .before .before .before .before .before .before .before .before .before .before .loop-test .taken) code refl (k .0 .0) kind
+    tried-as (a .v) (orderOf (a .order)) (a .file .now) _ (a .stop) (l .m) (l .at) (n .result) (k .0 .0) (e .result) (Goes (t .0 .0) (t .0 .1 .0) (t .0 .1 .1 .0)) (t .1) (e .ensures) in
+    turned-goes (a .v) (orderOf (a .order)) (a .file .now) (a .spans .now) (a .stop) _ (a .first) (l .m) (l .at) (l .tally) (l .last) (l .inv) (c11 .before .before .before .before .loop-test .taken) code refl (k .0 .0) kind
     (n .result) (n .ensures .0) (t .0 .0) (t .0 .1 .0) (t .0 .1 .1 .0) g (c .before .counted .result) (c .before .counted .ensures) (c .begins .result) (c .begins .ensures)
 
 ended-requires-2 : tie.Need-ended-requires-2 Inv-loop μ-loop
@@ -184,7 +183,7 @@ returns-3 : tie.Need-returns-3 Inv-loop μ-loop
 returns-3 c =
     let a = c .before .before .before .before .before .before .before .before .before .args in
     let l = c .before .before .loop in
-    let q = turn-end (a .v) (orderOf (a .any)) (a .file .now) (a .spans .now) (a .stop) _ (a .first) (l .m) (l .at) (l .tally) (l .inv .turning) (c .before .loop-test .left) in
+    let q = turn-end (a .v) (orderOf (a .order)) (a .file .now) (a .spans .now) (a .stop) _ (a .first) (l .m) (l .at) (l .tally) (l .inv .turning) (c .before .loop-test .left) in
     (c .ended2 .ensures .0 ∙ q .0, c .ended2 .ensures .1 ∙ q .1)
 
 pub frames-spec : {M : Type 1} → statement M

@@ -15,7 +15,7 @@ returns : tie.Need-returns
 returns c =
     let s = c .before .before .before .before .before .before in
     let a = s .args in
-    let g = c .before .before .before .before .counts-of in
+    let g = c .before .before .before .before .input-of in
     let t = c .before .before .too-many in
     verdict-as (a .file .now) (c .refused .result) _ (c .refused .ensures)
     (too-big (a .file .now) (a .first) (a .stop) (a .parts) (s .pre) (g .result) (g .ensures) (t .result) (t .ensures) (c .before .if1 .taken))
@@ -24,7 +24,7 @@ returns-2 : tie.Need-returns-2
 returns-2 c =
     let s = c .before .before .before .before .before in
     let a = s .args in
-    let g = c .before .before .before .counts-of in
+    let g = c .before .before .before .input-of in
     let t = c .before .too-many in
     accepts (a .file .now) (a .first) (a .stop) (a .parts) (s .pre) (g .result) (g .ensures) (t .result) (t .ensures) (c .if1 .left)
 

@@ -46,13 +46,16 @@ judge-parts-requires c κs =
 
 unless-walk-refused-requires-4 : tie.Need-unless-walk-refused-requires-4
 unless-walk-refused-requires-4 c κs k =
-    let s = c .before .before .before .before .before .before .before .before .before .before .before .before in
+    let c5 = c .before .before .before .before .before in
+    let s = c5 .before .before .before .before .before .before .before in
     let a = s .args in
-    let e = c .before .before .before .before .before .before .before .before .before .first-event in
-    let o = c .before .before .before .before .before .before .before .e .given in
-    let x = c .before .before .before .before .before .accepted in
+    let e = c5 .before .before .before .before .first-event in
+    let o = c5 .before .before .e .given in
+    let x = c5 .accepted in
     let j = c .before .before .judge-parts in
-    not-held (a .file .now) (a .spans .now) (a .first) (a .stop) (a .whole) (s .pre) k (o .0 .0) (o .0 .1 .0) (e .result) (e .ensures) (o .1) (sym (x .ensures) ∙ not-left (x .result) (c .before .before .before .before .if1 .left)) (subst (JudgesFirst (a .file .now) (a .first) (a .stop)) (c .enum-told2 .given .1) (j .ensures) k)
+    not-held (a .file .now) (a .spans .now) (a .first) (a .stop) (a .whole) (s .pre) k (o .0 .0) (o .0 .1 .0) (e .result) (e .ensures) (o .1)
+    (sym (x .ensures) ∙ not-left (x .result) (c .before .before .before .before .if1 .left))
+    (subst (JudgesFirst (a .file .now) (a .first) (a .stop)) (c .enum-told2 .given .1) (j .ensures) k)
 
 judge-counts-requires : tie.Need-judge-counts-requires
 judge-counts-requires c κs =

@@ -2,12 +2,12 @@
 -- Assumes nothing.
 use borrow.Author.Needs.{needs}
 use mathlib.Core.Path.{refl}
-use Rattle.needs.specs.Inner.{markAt}
+use Rattle.game.specs.Frames.{isMarked}
 use Rattle.needs.proofs.is_marked.Statement.{statement}
 use Rattle.needs.proofs.is_marked.Tie as tie
 
 returns : tie.Need-returns
-unfolding markAt
+unfolding isMarked
 returns c = refl
 
 pub is-marked-spec : {M : Type 1} → statement M

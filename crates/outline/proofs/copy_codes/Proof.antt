@@ -39,7 +39,9 @@ part-put-bytes-end : tie.Need-part-put-bytes-end Inv-loop μ-loop
 part-put-bytes-end c = omega arith
 
 put-bytes-requires : tie.Need-put-bytes-requires Inv-loop μ-loop
-put-bytes-requires c κs = let l = c .before .before .before .loop in let a = c .before .before .before .before .before .before .args in let h = c .before .before .before .before .before .before .pre in room-part (a .file .now) _ (range-room _ (l .b) _ (l .inv .1) (c .before .before .loop-test .taken) (copy-room (a .file .now) (a .codes .now) (a .first) (a .blocks) (h .0) (h .1)))
+put-bytes-requires c κs =
+    let c6 = c .before .before .before .before .before .before in
+    let l = c .before .before .before .loop in let a = c6 .args in let h = c6 .pre in room-part (a .file .now) _ (range-room _ (l .b) _ (l .inv .1) (c .before .before .loop-test .taken) (copy-room (a .file .now) (a .codes .now) (a .first) (a .blocks) (h .0) (h .1)))
 
 add-b : tie.Need-add-b Inv-loop μ-loop
 add-b c = omega arith
@@ -48,7 +50,9 @@ loop-less : tie.Need-loop-less Inv-loop μ-loop
 loop-less c = omega arith
 
 loop-again : tie.Need-loop-again Inv-loop μ-loop
-loop-again c = let l = c .before .before .before .before .before .before .loop in let a = c .before .before .before .before .before .before .before .before .before .args in (omega arith, range-step _ (l .b) _ (l .inv .1) (c .before .before .before .before .before .loop-test .taken) (wrote-part (a .file .now) _ (c .before .before .put-bytes .ensures)))
+loop-again c =
+    let c5 = c .before .before .before .before .before in
+    let l = c5 .before .loop in let a = c5 .before .before .before .before .args in (omega arith, range-step _ (l .b) _ (l .inv .1) (c5 .loop-test .taken) (wrote-part (a .file .now) _ (c .before .before .put-bytes .ensures)))
 
 same-length : tie.Need-same-length Inv-loop μ-loop
 same-length c = c .before .loop .inv .1 .same

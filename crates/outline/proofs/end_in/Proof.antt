@@ -22,7 +22,9 @@ placements-in-requires : tie.Need-placements-in-requires
 placements-in-requires c κs = search needs
 
 returns : tie.Need-returns
-returns c = let a = c .before .before .before .before .before .args in end-as _ _ _ _ _ _ (ap (λ n. getD (a .file .now) n 0) (sym (add-zero (a .at))) ∙ byte-in (a .file .now) (a .at) _ 0 (omega (arith, size-some (a .v)))) (c .before .before .initiator-in .ensures) (c .before .placed-in .ensures) (c .placements-in .ensures)
+returns c =
+    let c5 = c .before .before .before .before .before in
+    let a = c5 .args in end-as _ _ _ _ _ _ (ap (λ n. getD (a .file .now) n 0) (sym (add-zero (a .at))) ∙ byte-in (a .file .now) (a .at) _ 0 (omega (arith, size-some (a .v)))) (c .before .before .initiator-in .ensures) (c .before .placed-in .ensures) (c .placements-in .ensures)
 
 pub end-in-spec : {M : Type 1} → statement M
 end-in-spec =

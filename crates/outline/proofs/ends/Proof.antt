@@ -28,10 +28,14 @@ is-second-requires : tie.Need-is-second-requires
 is-second-requires c κs = let l = c .before .before .before .is-right .ensures .1 (c .before .before .if2 .taken) in let h = c .before .before .before .before .before .before .before .pre in (record { under = omega (arith, l, c .before .end-size .ensures .0); long = h .1; all-codes = h .2 }, l)
 
 returns-3 : tie.Need-returns-3
-returns-3 c = ends-two _ _ _ _ _ (c .before .before .before .before .before .before .if1 .left) _ (c .before .before .before .before .before .is-right .ensures .0) (c .before .before .before .before .if2 .taken) _ (c .before .before .before .end-size .ensures .0) (c .before .before .if3 .left) _ (c .before .is-second .ensures) (c .if4 .taken)
+returns-3 c =
+    let c5 = c .before .before .before .before .before in
+    ends-two _ _ _ _ _ (c5 .before .if1 .left) _ (c5 .is-right .ensures .0) (c .before .before .before .before .if2 .taken) _ (c .before .before .before .end-size .ensures .0) (c .before .before .if3 .left) _ (c .before .is-second .ensures) (c .if4 .taken)
 
 returns-4 : tie.Need-returns-4
-returns-4 c = ends-unlike _ _ _ _ _ (c .before .before .before .before .before .before .if1 .left) _ (c .before .before .before .before .before .is-right .ensures .0) (c .before .before .before .before .if2 .taken) _ (c .before .before .before .end-size .ensures .0) (c .before .before .if3 .left) _ (c .before .is-second .ensures) (c .if4 .left)
+returns-4 c =
+    let c5 = c .before .before .before .before .before in
+    ends-unlike _ _ _ _ _ (c5 .before .if1 .left) _ (c5 .is-right .ensures .0) (c .before .before .before .before .if2 .taken) _ (c .before .before .before .end-size .ensures .0) (c .before .before .if3 .left) _ (c .before .is-second .ensures) (c .if4 .left)
 
 returns-5 : tie.Need-returns-5
 returns-5 c = ends-wrong _ _ _ _ _ (c .before .before .if1 .left) _ (c .before .is-right .ensures .0) (c .if2 .left)

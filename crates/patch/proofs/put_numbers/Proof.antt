@@ -56,11 +56,13 @@ loop-less c = omega arith
 
 loop-again : tie.Need-loop-again Inv-loop μ-loop
 loop-again c =
-    let l = c .before .before .before .before .before .before .before .before .loop in
-    let f = fit-at _ _ _ _ _ _ (c .before .before .before .before .before .before .before .before .before .before .before .before .before .pre) (c .before .before .before .before .before .before .before .loop-test .taken) in (
+    let c7 = c .before .before .before .before .before .before .before in
+    let c13 = c7 .before .before .before .before .before .before in
+    let l = c7 .before .loop in
+    let f = fit-at _ _ _ _ _ _ (c13 .pre) (c7 .loop-test .taken) in (
       omega arith,
       omega (arith, c .before .before .put-be .kept .0, l .inv .1),
-      numbers-step _ _ _ _ _ _ (c .before .before .before .before .before .before .before .loop-test .taken) (f .width) (f .value) (c .before .before .put-be .ensures) (l .inv .2),
+      numbers-step _ _ _ _ _ _ (c7 .loop-test .taken) (f .width) (f .value) (c .before .before .put-be .ensures) (l .inv .2),
     )
 
 same-length : tie.Need-same-length Inv-loop μ-loop

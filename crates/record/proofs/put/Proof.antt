@@ -51,9 +51,10 @@ this c = turn _ _ _ _ _ (c .before .before .before .before .before .before .pre 
 
 put-u32-requires : tie.Need-put-u32-requires Inv-loop μ-loop
 put-u32-requires c κs =
+    let c8 = c .before .before .before .before .before .before .before .before in
     let l = c .before .before .before .loop in
     let t = this (c .before .before) in
-    record { fits = rw length-be (omega (arith, room (c .before .before .before .before .before .before .before .before), head-room (c .before .before .before .before .before .before .before .before .args .h), t .within, l .inv .2, l .inv .3 .same)) }
+    record { fits = rw length-be (omega (arith, room (c8), head-room (c8 .args .h), t .within, l .inv .2, l .inv .3 .same)) }
 
 loop-again : tie.Need-loop-again Inv-loop μ-loop
 loop-again c =
@@ -70,11 +71,13 @@ put-head-requires c κs = record { fits = omega (arith, room (c .before .before 
 
 returns : tie.Need-returns Inv-loop μ-loop
 returns c =
-    let l = c .before .before .before .before .before .loop in
-    let a = c .before .before .before .before .before .before .before .before .before .before .args in
+    let c5 = c .before .before .before .before .before in
+    let c10 = c5 .before .before .before .before .before in
+    let l = c5 .loop in
+    let a = c10 .args in
     let b : Behind _ _ _ (l .out) (headBytes (a .h)) = rw (none-left (a .widths .now) (a .cells .now) (a .stride) (a .first) (l .k) (c .before .before .before .before .loop-test .left) (headBytes (a .h))) at (l .inv .3) in
     behind-done b (c .before .before .put-head .ensures)
-    (omega (arith, length-record (a .h) (a .widths .now) (a .cells .now) (a .stride) (a .first), c .before .before .before .before .before .before .head-len .ensures, c .before .before .before .before .before .before .before .before .before .before .pre .0))
+    (omega (arith, length-record (a .h) (a .widths .now) (a .cells .now) (a .stride) (a .first), c5 .before .head-len .ensures, c10 .pre .0))
 
 pub put-spec : {M : Type 1} → statement M
 put-spec =

@@ -13,12 +13,16 @@ put-u8-requires c κs = room-first {xs = c .before .before .args .h .code ∷ []
 
 put-u32-requires : tie.Need-put-u32-requires
 unfolding headBytes
-put-u32-requires c κs = room-first _ (room-second {xs = c .before .before .before .before .before .before .args .h .code ∷ []} (c .before .before .before .before .before .before .pre) (c .before .before .before .put-u8 .ensures))
+put-u32-requires c κs =
+    let c6 = c .before .before .before .before .before .before in
+    room-first _ (room-second {xs = c6 .args .h .code ∷ []} (c6 .pre) (c .before .before .before .put-u8 .ensures))
 
 put-player-requires : tie.Need-put-player-requires
 unfolding headBytes
 put-player-requires c κs =
-    room-second (room-second {xs = c .before .before .before .before .before .before .before .before .before .before .args .h .code ∷ []} (c .before .before .before .before .before .before .before .before .before .before .pre) (c .before .before .before .before .before .before .before .put-u8 .ensures)) (c .before .before .before .put-u32 .ensures)
+    let c7 = c .before .before .before .before .before .before .before in
+    let c10 = c7 .before .before .before in
+    room-second (room-second {xs = c10 .args .h .code ∷ []} (c10 .pre) (c7 .put-u8 .ensures)) (c .before .before .before .put-u32 .ensures)
 
 returns : tie.Need-returns
 unfolding headBytes

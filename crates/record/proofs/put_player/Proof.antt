@@ -13,8 +13,10 @@ put-u8-requires c κs =
 
 put-u8-requires-2 : tie.Need-put-u8-requires-2
 put-u8-requires-2 c κs =
-    let h = c .before .before .before .before .before .before .before .args .h in
-    room-second {xs = h .port ∷ []} {ys = h .follower ∷ []} (room-kept _ _ (c .before .before .before .before .before .if1 .taken) (c .before .before .before .before .before .before .before .pre)) (c .before .before .before .put-u8 .ensures)
+    let c5 = c .before .before .before .before .before in
+    let c7 = c5 .before .before in
+    let h = c7 .args .h in
+    room-second {xs = h .port ∷ []} {ys = h .follower ∷ []} (room-kept _ _ (c5 .if1 .taken) (c7 .pre)) (c .before .before .before .put-u8 .ensures)
 
 returns : tie.Need-returns
 returns c = wrote-kept _ _ (c .before .before .before .before .before .before .before .before .if1 .taken) (wrote-then (c .before .before .before .before .before .before .put-u8 .ensures) (c .before .before .put-u82 .ensures))

@@ -28,7 +28,10 @@ put-u8-requires c κs = record { fits = omega (arith, reach (c .before .before),
 
 loop-again : tie.Need-loop-again Inv-loop μ-loop
 unfolding placeAt
-loop-again c = (omega (arith, c .before .before .before .before .before .loop-test .taken), strewn-step (c .before .before .before .before .before .before .loop .t) (c .before .before .before .before .before .before .loop .inv .1) (c .before .before .put-u8 .ensures) refl)
+loop-again c =
+    let c5 = c .before .before .before .before .before in
+    let c6 = c5 .before in
+    (omega (arith, c5 .loop-test .taken), strewn-step (c6 .loop .t) (c6 .loop .inv .1) (c .before .before .put-u8 .ensures) refl)
 
 same-length : tie.Need-same-length Inv-loop μ-loop
 same-length c = strewn-length (c .before .loop .t) (c .before .loop .inv .1)

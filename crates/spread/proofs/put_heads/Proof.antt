@@ -29,9 +29,10 @@ same-length c = omega (arith, c .before .before .before .before .before .before 
 
 returns : tie.Need-returns
 returns c =
-    let s = c .before .before .before .before .before .before .before .before .before .before .before .before .before .before .before in
+    let c6 = c .before .before .before .before .before .before in
+    let s = c6 .before .before .before .before .before .before .before .before .before in
     let a = s .args in
-    heads-strewn (a .h) (a .ids .now) (a .j) (a .places .now) (a .i) (a .off) (s .pre .2) (c .before .before .before .before .before .before .before .before .before .before .put-codes .ensures) (c .before .before .before .before .before .before .put-ids .ensures) (c .before .before .put-players .ensures)
+    heads-strewn (a .h) (a .ids .now) (a .j) (a .places .now) (a .i) (a .off) (s .pre .2) (c6 .before .before .before .before .put-codes .ensures) (c6 .put-ids .ensures) (c .before .before .put-players .ensures)
 
 pub put-heads-spec : {M : Type 1} → statement M
 put-heads-spec =

@@ -29,11 +29,16 @@ put-u8-requires c κs = record { fits = omega (arith, reach (c .before .before),
 
 put-u8-requires-2 : tie.Need-put-u8-requires-2 Inv-loop μ-loop
 put-u8-requires-2 c κs =
-    record { fits = omega (arith, reach (c .before .before .before .before .before .before), strewn-length (c .before .before .before .before .before .before .before .loop .t) (c .before .before .before .before .before .before .before .loop .inv .1), c .before .before .before .put-u8 .ensures .next-is, wrote-length (c .before .before .before .put-u8 .ensures)) }
+    let c3 = c .before .before .before in
+    let c7 = c3 .before .before .before .before in
+    record { fits = omega (arith, reach (c3 .before .before .before), strewn-length (c7 .loop .t) (c7 .loop .inv .1), c3 .put-u8 .ensures .next-is, wrote-length (c3 .put-u8 .ensures)) }
 
 loop-again : tie.Need-loop-again Inv-loop μ-loop
 unfolding placeAt
-loop-again c = (omega (arith, c .before .before .before .before .before .before .before .before .before .loop-test .taken), strewn-step (c .before .before .before .before .before .before .before .before .before .before .loop .t) (c .before .before .before .before .before .before .before .before .before .before .loop .inv .1) (wrote-then (c .before .before .before .before .before .before .put-u8 .ensures) (c .before .before .put-u82 .ensures)) refl)
+loop-again c =
+    let c6 = c .before .before .before .before .before .before in
+    let c10 = c6 .before .before .before .before in
+    (omega (arith, c6 .before .before .before .loop-test .taken), strewn-step (c10 .loop .t) (c10 .loop .inv .1) (wrote-then (c6 .put-u8 .ensures) (c .before .before .put-u82 .ensures)) refl)
 
 same-length : tie.Need-same-length Inv-loop μ-loop
 same-length c = strewn-length (c .before .loop .t) (c .before .loop .inv .1)

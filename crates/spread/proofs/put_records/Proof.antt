@@ -65,8 +65,8 @@ put-column-requires c κs =
 
 loop-again : tie.Need-loop-again Inv-loop μ-loop
 loop-again c =
-    let l = c .before .before .before .before .before .before .before .loop in
     let d = c .before .before .before .before .before .before in
+    let l = d .before .loop in
     let s = d .before .before .before .before .before .before .before .before in
     let t = this d in
     let a = s .args in
@@ -74,7 +74,8 @@ loop-again c =
       omega arith,
       omega (arith, b, l .inv .1),
       omega (arith, t .total, l .inv .2, c .wide .ensures .0),
-      records-step (a .h) (a .ids .now) (a .j) (a .widths .now) (a .cells .now) (a .stride) (a .first) (a .places .now) (a .i) (a .off) (l .k) (l .x) (l .q) (c .wide .result) t (d .loop-test .taken) (l .inv .0) (l .inv .1) (l .inv .2) (c .wide .ensures .0) (s .pre .4) (l .inv .3) (c .before .before .before .before .put-column .ensures),
+      records-step (a .h) (a .ids .now) (a .j) (a .widths .now) (a .cells .now) (a .stride) (a .first) (a .places .now) (a .i) (a .off) (l .k) (l .x) (l .q) (c .wide .result) t
+          (d .loop-test .taken) (l .inv .0) (l .inv .1) (l .inv .2) (c .wide .ensures .0) (s .pre .4) (l .inv .3) (c .before .before .before .before .put-column .ensures),
     )
 
 put-heads-requires : tie.Need-put-heads-requires Inv-loop μ-loop
@@ -88,12 +89,14 @@ same-length c = search needs
 
 returns : tie.Need-returns Inv-loop μ-loop
 returns c =
-    let s = c .before .before .before .before .before .before .before .before .before .before .before .before in
+    let c5 = c .before .before .before .before .before in
+    let c6 = c5 .before in
+    let s = c6 .before .before .before .before .before .before in
     let a = s .args in
-    let l = c .before .before .before .before .before .loop in
-    let e = c .before .before .before .before .before .before .head-len .ensures in
+    let l = c5 .loop in
+    let e = c6 .head-len .ensures in
     record {
-      next-is = λ t h. omega (arith, e, s .pre .0, record-at (a .h) (a .ids .now) (a .j) (a .widths .now) (a .cells .now) (a .stride) (a .first) t, place-is (a .places .now) (a .i) (a .off) t, place-is (a .places .now) (a .i) (a .off + (c .before .before .before .before .before .before .head-len .result + a .bytes)) t);
+      next-is = λ t h. omega (arith, e, s .pre .0, record-at (a .h) (a .ids .now) (a .j) (a .widths .now) (a .cells .now) (a .stride) (a .first) t, place-is (a .places .now) (a .i) (a .off) t, place-is (a .places .now) (a .i) (a .off + (c6 .head-len .result + a .bytes)) t);
       after-is = records-done (a .h) (a .ids .now) (a .j) (a .widths .now) (a .cells .now) (a .stride) (a .first) (l .k) (c .before .before .before .before .loop-test .left) (l .inv .3) (c .before .before .put-heads .ensures) .after-is;
     }
 

@@ -1,6 +1,6 @@
 -- `wire::put_bytes` meets its contract.
 -- Assumes nothing.
-use Prim.Native.Nat.{ℕ, _-_, _≤_}
+use Prim.Native.Nat.{_-_, _≤_}
 use native.Mathlib.Omega.{arith}
 use lib.ListN.{length, drop, length-drop, drop-of-length-le}
 use Rattle.wire.proofs.Laws.{rest-step}

@@ -1,6 +1,6 @@
 -- `wire::put_low` meets its contract.
 -- Assumes nothing.
-use Prim.Native.Nat.{ℕ, _≤_}
+use Prim.Native.Nat.{_≤_}
 use native.Mathlib.Omega.{arith}
 use Rattle.wire.specs.Wire.{be}
 use Rattle.wire.proofs.Laws.{length-be, be-step, be-done}

@@ -1,8 +1,6 @@
 use borrow.Author.Tests.{eq-eqb, ne-eqb}
 use Rattle.answers.proofs.mask.rollbacks_of.Statement.{statement}
 use Rattle.answers.proofs.mask.rollbacks_of.Tie as tie
-use Rattle.answers.proofs.mask.rollbacks_of.Reads as reads
-use Rattle.answers.proofs.mask.rollbacks_of.Lts as lts
 
 -- src/mask.rt:9:1
 returns : tie.Need-returns

@@ -8,11 +8,11 @@ use Rattle.codes.proofs.blocks.codes_wrong.Tie as tie
 
 returns : tie.Need-returns
 unfolding codesWrong
-returns c = rw (c .before .before .before .if1 .taken, sym (c .before .before .gte .ensures) ∙ c .before .if2 .taken, c .padded .ensures)
+returns c = rw (c .before .before .before .if1 .taken, sym (c .before .before .has-codes .ensures) ∙ c .before .if2 .taken, c .padded .ensures)
 
 returns-2 : tie.Need-returns-2
 unfolding codesWrong
-returns-2 c = rw (c .before .before .if1 .taken, sym (c .before .gte .ensures) ∙ c .if2 .left)
+returns-2 c = rw (c .before .before .if1 .taken, sym (c .before .has-codes .ensures) ∙ c .if2 .left)
 
 returns-3 : tie.Need-returns-3
 unfolding codesWrong

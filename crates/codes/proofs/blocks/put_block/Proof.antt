@@ -16,8 +16,10 @@ put-bytes-requires c κs =
 
 put-block-end-requires : tie.Need-put-block-end-requires
 put-block-end-requires c κs =
-    let r = room-as (block-parts _ _ _ _ (c .before .before .before .before .before .before .before .before .before .code .ensures)) (c .before .before .before .before .before .before .before .before .before .before .before .before .before .pre .2) in
-    (c .before .before .before .before .before .before .before .before .before .before .before .before .before .pre .0, room-second (room-second r (c .before .before .before .before .before .before .before .before .put-u8 .ensures)) (c .before .before .before .put-bytes .ensures))
+    let c8 = c .before .before .before .before .before .before .before .before in
+    let c13 = c8 .before .before .before .before .before in
+    let r = room-as (block-parts _ _ _ _ (c8 .before .code .ensures)) (c13 .pre .2) in
+    (c13 .pre .0, room-second (room-second r (c8 .put-u8 .ensures)) (c .before .before .before .put-bytes .ensures))
 
 returns : tie.Need-returns
 returns c =

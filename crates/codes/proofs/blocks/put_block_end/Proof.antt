@@ -17,13 +17,17 @@ put-u8-requires c κs =
 
 put-u8-requires-2 : tie.Need-put-u8-requires-2
 put-u8-requires-2 c κs =
-    let r = room-as (block-end-parts _ _ _ _ _ (c .before .before .before .before .before .before .before .before .before .before .used-bytes .ensures) (c .before .before .before .before .before .code .ensures) (c .last-flag .ensures)) (c .before .before .before .before .before .before .before .before .before .before .before .before .before .pre .1) in
-    room-second (room-second r (c .before .before .before .before .before .before .before .before .before .put-u16 .ensures)) (c .before .before .before .before .put-u8 .ensures)
+    let c5 = c .before .before .before .before .before in
+    let c10 = c5 .before .before .before .before .before in
+    let r = room-as (block-end-parts _ _ _ _ _ (c10 .used-bytes .ensures) (c5 .code .ensures) (c .last-flag .ensures)) (c10 .before .before .before .pre .1) in
+    room-second (room-second r (c5 .before .before .before .before .put-u16 .ensures)) (c .before .before .before .before .put-u8 .ensures)
 
 returns : tie.Need-returns
 returns c =
-    wrote-as (sym (block-end-parts _ _ _ _ _ (c .before .before .before .before .before .before .before .before .before .before .before .before .before .used-bytes .ensures) (c .before .before .before .before .before .before .before .before .code .ensures) (c .before .before .before .last-flag .ensures)))
-    (wrote-then (c .before .before .before .before .before .before .before .before .before .before .before .before .put-u16 .ensures) (wrote-then (c .before .before .before .before .before .before .before .put-u8 .ensures) (c .before .before .put-u82 .ensures)))
+    let c7 = c .before .before .before .before .before .before .before in
+    let c12 = c7 .before .before .before .before .before in
+    wrote-as (sym (block-end-parts _ _ _ _ _ (c12 .before .used-bytes .ensures) (c7 .before .code .ensures) (c .before .before .before .last-flag .ensures)))
+    (wrote-then (c12 .put-u16 .ensures) (wrote-then (c7 .put-u8 .ensures) (c .before .before .put-u82 .ensures)))
 
 pub put-block-end-spec : {M : Type 1} → statement M
 put-block-end-spec =

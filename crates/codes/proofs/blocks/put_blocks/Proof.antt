@@ -23,8 +23,9 @@ loop-holds c = (omega arith, blocks-start _ _ _ (c .block-count .ensures .0))
 
 put-block-requires : tie.Need-put-block-requires Inv-loop μ-loop
 put-block-requires c κs =
+    let c6 = c .before .before .before .before .before .before in
     let l = c .before .before .loop in
-    (omega (arith, c .before .before .before .block-count .ensures .0), c .before .before .before .before .before .before .pre .0, range-room _ (l .b) _ (l .inv .1) (c .before .loop-test .taken) (c .before .before .before .before .before .before .pre .1))
+    (omega (arith, c .before .before .before .block-count .ensures .0), c6 .pre .0, range-room _ (l .b) _ (l .inv .1) (c .before .loop-test .taken) (c6 .pre .1))
 
 loop-again : tie.Need-loop-again Inv-loop μ-loop
 loop-again c = let l = c .before .before .before .before .before .loop in (omega arith, range-step _ (l .b) _ (l .inv .1) (c .before .before .before .before .loop-test .taken) (c .before .before .put-block .ensures))

@@ -15,16 +15,21 @@ put-u8-requires-2 c κs = room-first _ (room-second (room-as (end-parts _ _ _ (c
 
 put-initiator-requires : tie.Need-put-initiator-requires
 put-initiator-requires c κs =
-    room-first _ (room-second (room-second (room-as (end-parts _ _ _ (c .before .before .before .before .before .before .before .before .code .ensures)) (c .before .before .before .before .before .before .before .before .before .before .before .pre)) (c .before .before .before .before .before .before .before .put-u8 .ensures)) (c .before .before .before .put-u82 .ensures))
+    let c7 = c .before .before .before .before .before .before .before in
+    room-first _ (room-second (room-second (room-as (end-parts _ _ _ (c7 .before .code .ensures)) (c7 .before .before .before .before .pre)) (c7 .put-u8 .ensures)) (c .before .before .before .put-u82 .ensures))
 
 put-placements-requires : tie.Need-put-placements-requires
 put-placements-requires c κs =
-    room-second (room-second (room-second (room-as (end-parts _ _ _ (c .before .before .before .before .before .before .before .before .before .before .before .before .code .ensures)) (c .before .before .before .before .before .before .before .before .before .before .before .before .before .before .before .pre)) (c .before .before .before .before .before .before .before .before .before .before .before .put-u8 .ensures)) (c .before .before .before .before .before .before .before .put-u82 .ensures)) (c .before .before .before .put-initiator .ensures)
+    let c7 = c .before .before .before .before .before .before .before in
+    let c12 = c7 .before .before .before .before .before in
+    room-second (room-second (room-second (room-as (end-parts _ _ _ (c12 .code .ensures)) (c12 .before .before .before .pre)) (c7 .before .before .before .before .put-u8 .ensures)) (c7 .put-u82 .ensures)) (c .before .before .before .put-initiator .ensures)
 
 returns : tie.Need-returns
 returns c =
-    wrote-as (sym (end-parts _ _ _ (c .before .before .before .before .before .before .before .before .before .before .before .before .before .before .before .code .ensures)))
-    (wrote-then (c .before .before .before .before .before .before .before .before .before .before .before .before .before .before .put-u8 .ensures) (wrote-then (c .before .before .before .before .before .before .before .before .before .before .put-u82 .ensures) (wrote-then (c .before .before .before .before .before .before .put-initiator .ensures) (c .before .before .put-placements .ensures))))
+    let c6 = c .before .before .before .before .before .before in
+    let c14 = c6 .before .before .before .before .before .before .before .before in
+    wrote-as (sym (end-parts _ _ _ (c14 .before .code .ensures)))
+    (wrote-then (c14 .put-u8 .ensures) (wrote-then (c6 .before .before .before .before .put-u82 .ensures) (wrote-then (c6 .put-initiator .ensures) (c .before .before .put-placements .ensures))))
 
 pub put-end-spec : {M : Type 1} → statement M
 put-end-spec =

@@ -17,7 +17,9 @@ put-bytes-requires-2 c κs = room-first _ (room-second {xs = metadataKey} (room-
 put-u8-requires : tie.Need-put-u8-requires
 unfolding metadataOf
 put-u8-requires c κs =
-    room-second (room-second {xs = metadataKey} (room-kept _ _ (c .before .before .before .before .before .before .before .before .before .before .if1 .taken) (c .before .before .before .before .before .before .before .before .before .before .before .before .before .pre)) (c .before .before .before .before .before .before .before .put-bytes .ensures)) (c .before .before .before .put-bytes2 .ensures)
+    let c7 = c .before .before .before .before .before .before .before in
+    let c13 = c7 .before .before .before .before .before .before in
+    room-second (room-second {xs = metadataKey} (room-kept _ _ (c7 .before .before .before .if1 .taken) (c13 .pre)) (c7 .put-bytes .ensures)) (c .before .before .before .put-bytes2 .ensures)
 
 returns : tie.Need-returns
 unfolding metadataOf

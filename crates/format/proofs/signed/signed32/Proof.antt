@@ -1,8 +1,7 @@
 -- `format::signed::signed32` meets its contract. Assumes nothing.
 use mathlib.Core.Path.{refl}
-use Prim.Native.Nat.{_%_}
 use native.Mathlib.Omega.{arith}
-use mir.Syntax.{w8, w32, w64}
+use mir.Syntax.{w32, w64}
 use Rattle.format.proofs.Bits.{down-fits, down-cast, down-is}
 use borrow.Author.Needs.{needs}
 use Rattle.format.proofs.signed.signed32.Statement.{statement}

@@ -2,7 +2,7 @@
 use mathlib.Core.Path.{refl}
 use Prim.Native.Nat.{_%_}
 use native.Mathlib.Omega.{arith}
-use mir.Syntax.{w8, w32, w64}
+use mir.Syntax.{w8, w32}
 use Rattle.format.proofs.Bits.{down-fits, down-cast, down-is}
 use borrow.Author.Needs.{needs}
 use Rattle.format.proofs.signed.signed8.Statement.{statement}

@@ -9,16 +9,12 @@ use Rattle.frame_order.specs.Inner.{orderOf, dueIn}
 use Rattle.frame_order.proofs.Laws.{room-go, due-go, due-stop, due-done}
 use Rattle.frame_order.proofs.due.may_come.Statement.{statement}
 use Rattle.frame_order.proofs.due.may_come.Tie as tie
-use Rattle.frame_order.proofs.due.may_come.Reads as reads
-use Rattle.frame_order.proofs.due.may_come.Lts as lts
-use Rattle.frame_order.proofs.due.slot_at.Reads as slot-at-reads
-use Rattle.frame_order.proofs.due.stands_before.Reads as stands-before-reads
 
 abbrev Inv-loop : tie.InvT-loop
-Inv-loop file any span pre due k p₀ n₀ p n = (p + n * span ≤ length file) × (mayCome (orderOf any) (dueIn file span pre due) k ≡ mayCome (orderOf any) (dueIn file span p n) k)
+Inv-loop file order span pre due k p₀ n₀ p n = (p + n * span ≤ length file) × (mayCome (orderOf order) (dueIn file span pre due) k ≡ mayCome (orderOf order) (dueIn file span p n) k)
 
 abbrev μ-loop : tie.MeasureT-loop
-μ-loop file any span pre due k p₀ n₀ p n = n
+μ-loop file order span pre due k p₀ n₀ p n = n
 
 loop-holds : tie.Need-loop-holds Inv-loop μ-loop
 loop-holds c = (omega arith, refl)
@@ -51,7 +47,7 @@ loop-again c =
     let l = c .before .before .before .before .loop in
     let a = c .before .before .before .before .before .before .args in (
       room-go (l .p) (l .n) (a .span) (length (a .file .now)) (omega arith) (l .inv .0) .0,
-      l .inv .1 ∙ due-go (orderOf (a .any)) (a .file .now) (a .span) (l .p) (a .k) (l .n) (omega arith) (j .result) (j .ensures .0) (t .stands-before .result)
+      l .inv .1 ∙ due-go (orderOf (a .order)) (a .file .now) (a .span) (l .p) (a .k) (l .n) (omega arith) (j .result) (j .ensures .0) (t .stands-before .result)
           (t .stands-before .ensures) (c .if1 .taken),
     )
 
@@ -61,13 +57,13 @@ returns c =
     let j = t .before .slot-at in
     let l = c .before .before .before .before .loop in
     let a = c .before .before .before .before .before .before .args in
-    sym (l .inv .1 ∙ due-stop (orderOf (a .any)) (a .file .now) (a .span) (l .p) (a .k) (l .n) (omega arith) (j .result) (j .ensures .0) (t .stands-before .result) (t .stands-before .ensures) (c .if1 .left))
+    sym (l .inv .1 ∙ due-stop (orderOf (a .order)) (a .file .now) (a .span) (l .p) (a .k) (l .n) (omega arith) (j .result) (j .ensures .0) (t .stands-before .result) (t .stands-before .ensures) (c .if1 .left))
 
 returns-2 : tie.Need-returns-2 Inv-loop μ-loop
 returns-2 c =
     let l = c .before .loop in
     let a = c .before .before .before .args in
-    sym (l .inv .1 ∙ due-done (orderOf (a .any)) (a .file .now) (a .span) (l .p) (a .k) (l .n) (omega arith))
+    sym (l .inv .1 ∙ due-done (orderOf (a .order)) (a .file .now) (a .span) (l .p) (a .k) (l .n) (omega arith))
 
 pub may-come-spec : {M : Type 1} → statement M
 may-come-spec =

@@ -5,9 +5,6 @@ use Rattle.frame_order.specs.Inner.{slotAt}
 use borrow.Author.Needs.{needs}
 use Rattle.frame_order.proofs.due.slot_at.Statement.{statement}
 use Rattle.frame_order.proofs.due.slot_at.Tie as tie
-use Rattle.frame_order.proofs.due.slot_at.Reads as reads
-use Rattle.frame_order.proofs.due.slot_at.Lts as lts
-use Rattle.wire.proofs.wide.Reads as wide-reads
 
 add-wide : tie.Need-add-wide
 add-wide c = search needs

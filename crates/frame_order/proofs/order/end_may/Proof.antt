@@ -4,9 +4,6 @@ use Rattle.frame_order.proofs.Steps.{end-is, end-not}
 use borrow.Author.Needs.{needs}
 use Rattle.frame_order.proofs.order.end_may.Statement.{statement}
 use Rattle.frame_order.proofs.order.end_may.Tie as tie
-use Rattle.frame_order.proofs.order.end_may.Reads as reads
-use Rattle.frame_order.proofs.order.end_may.Lts as lts
-use Rattle.frame_order.proofs.place.is_inside.Reads as is-inside-reads
 
 is-inside-requires : tie.Need-is-inside-requires
 is-inside-requires c κs = search needs

@@ -7,13 +7,6 @@ use Rattle.frame_order.proofs.Steps.{start-arm, fod-arm, whispy-arm, st
 use borrow.Author.Needs.{needs}
 use Rattle.frame_order.proofs.order.may.Statement.{statement}
 use Rattle.frame_order.proofs.order.may.Tie as tie
-use Rattle.frame_order.proofs.order.may.Reads as reads
-use Rattle.frame_order.proofs.order.may.Lts as lts
-use Rattle.frame_order.proofs.order.end_may.Reads as end-may-reads
-use Rattle.frame_order.proofs.place.is_closed.Reads as is-closed-reads
-use Rattle.frame_order.proofs.place.is_inside.Reads as is-inside-reads
-use Rattle.frame_order.proofs.order.post_may.Reads as post-may-reads
-use Rattle.frame_order.proofs.order.pre_may.Reads as pre-may-reads
 
 enum-told : tie.Need-enum-told
 enum-told c = search needs
@@ -66,48 +59,48 @@ end-may-requires c κs = search needs
 returns : tie.Need-returns
 returns c =
     let a = c .before .before .before .before .args in
-    arm (λ f. orderly (a .v) (orderOf (a .any)) (stateIn (a .file .now) (a .span) (a .m)) f (saidOf (a .w))) (c .before .enum-told .given .1)
+    arm (λ f. orderly (a .v) (orderOf (a .order)) (stateIn (a .file .now) (a .span) (a .m)) f (saidOf (a .w))) (c .before .enum-told .given .1)
     (start-arm (a .v) _ (a .file .now) (a .span) (a .m) (a .w) (c .is-closed .result) (c .is-closed .ensures))
 
 returns-2 : tie.Need-returns-2
 returns-2 c =
     let a = c .before .before .before .before .args in
-    arm (λ f. orderly (a .v) (orderOf (a .any)) (stateIn (a .file .now) (a .span) (a .m)) f (saidOf (a .w))) (c .before .enum-told2 .given .1) (c .pre-may .ensures)
+    arm (λ f. orderly (a .v) (orderOf (a .order)) (stateIn (a .file .now) (a .span) (a .m)) f (saidOf (a .w))) (c .before .enum-told2 .given .1) (c .pre-may .ensures)
 
 returns-3 : tie.Need-returns-3
 returns-3 c =
     let a = c .before .before .before .before .args in
-    arm (λ f. orderly (a .v) (orderOf (a .any)) (stateIn (a .file .now) (a .span) (a .m)) f (saidOf (a .w))) (c .before .enum-told3 .given .1)
+    arm (λ f. orderly (a .v) (orderOf (a .order)) (stateIn (a .file .now) (a .span) (a .m)) f (saidOf (a .w))) (c .before .enum-told3 .given .1)
     (fod-arm (a .v) _ (a .file .now) (a .span) (a .m) (a .w) (c .is-inside .result) (c .is-inside .ensures))
 
 returns-4 : tie.Need-returns-4
 returns-4 c =
     let a = c .before .before .before .before .args in
-    arm (λ f. orderly (a .v) (orderOf (a .any)) (stateIn (a .file .now) (a .span) (a .m)) f (saidOf (a .w))) (c .before .enum-told4 .given .1)
+    arm (λ f. orderly (a .v) (orderOf (a .order)) (stateIn (a .file .now) (a .span) (a .m)) f (saidOf (a .w))) (c .before .enum-told4 .given .1)
     (whispy-arm (a .v) _ (a .file .now) (a .span) (a .m) (a .w) (c .is-inside2 .result) (c .is-inside2 .ensures))
 
 returns-5 : tie.Need-returns-5
 returns-5 c =
     let a = c .before .before .before .before .args in
-    arm (λ f. orderly (a .v) (orderOf (a .any)) (stateIn (a .file .now) (a .span) (a .m)) f (saidOf (a .w))) (c .before .enum-told5 .given .1)
+    arm (λ f. orderly (a .v) (orderOf (a .order)) (stateIn (a .file .now) (a .span) (a .m)) f (saidOf (a .w))) (c .before .enum-told5 .given .1)
     (stadium-arm (a .v) _ (a .file .now) (a .span) (a .m) (a .w) (c .is-inside3 .result) (c .is-inside3 .ensures))
 
 returns-6 : tie.Need-returns-6
 returns-6 c =
     let a = c .before .before .before .before .args in
-    arm (λ f. orderly (a .v) (orderOf (a .any)) (stateIn (a .file .now) (a .span) (a .m)) f (saidOf (a .w))) (c .before .enum-told6 .given .1)
+    arm (λ f. orderly (a .v) (orderOf (a .order)) (stateIn (a .file .now) (a .span) (a .m)) f (saidOf (a .w))) (c .before .enum-told6 .given .1)
     (item-arm (a .v) _ (a .file .now) (a .span) (a .m) (a .w) (c .is-inside4 .result) (c .is-inside4 .ensures))
 
 returns-7 : tie.Need-returns-7
 returns-7 c =
     let a = c .before .before .before .before .args in
-    arm (λ f. orderly (a .v) (orderOf (a .any)) (stateIn (a .file .now) (a .span) (a .m)) f (saidOf (a .w))) (c .before .enum-told7 .given .1)
+    arm (λ f. orderly (a .v) (orderOf (a .order)) (stateIn (a .file .now) (a .span) (a .m)) f (saidOf (a .w))) (c .before .enum-told7 .given .1)
     (post-arm (a .v) _ (a .file .now) (a .span) (a .m) (a .w) (c .post-may .result) (c .post-may .ensures))
 
 returns-8 : tie.Need-returns-8
 returns-8 c =
     let a = c .before .before .before .before .args in
-    arm (λ f. orderly (a .v) (orderOf (a .any)) (stateIn (a .file .now) (a .span) (a .m)) f (saidOf (a .w))) (c .before .enum-told8 .given .1)
+    arm (λ f. orderly (a .v) (orderOf (a .order)) (stateIn (a .file .now) (a .span) (a .m)) f (saidOf (a .w))) (c .before .enum-told8 .given .1)
     (end-arm (a .v) _ (a .file .now) (a .span) (a .m) (a .w) (c .end-may .result) (c .end-may .ensures))
 
 pub may-spec : {M : Type 1} → statement M

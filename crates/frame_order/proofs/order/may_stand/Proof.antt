@@ -4,11 +4,6 @@ use Rattle.frame_order.proofs.Steps.{stands-inside, stands-not, stands-
 use borrow.Author.Needs.{needs}
 use Rattle.frame_order.proofs.order.may_stand.Statement.{statement}
 use Rattle.frame_order.proofs.order.may_stand.Tie as tie
-use Rattle.frame_order.proofs.order.may_stand.Reads as reads
-use Rattle.frame_order.proofs.order.may_stand.Lts as lts
-use Rattle.frame_order.proofs.place.is_closed.Reads as is-closed-reads
-use Rattle.frame_order.proofs.place.is_inside.Reads as is-inside-reads
-use Rattle.layout.proofs.columns.Family.exists.Reads as exists-reads
 
 is-inside-requires : tie.Need-is-inside-requires
 is-inside-requires c κs = search needs

@@ -7,12 +7,6 @@ use Rattle.frame_order.proofs.Steps.{next-is, next-not, third}
 use borrow.Author.Needs.{needs}
 use Rattle.frame_order.proofs.order.post_may.Statement.{statement}
 use Rattle.frame_order.proofs.order.post_may.Tie as tie
-use Rattle.frame_order.proofs.order.post_may.Reads as reads
-use Rattle.frame_order.proofs.order.post_may.Lts as lts
-use Rattle.frame_order.proofs.place.is_inside.Reads as is-inside-reads
-use Rattle.frame_order.proofs.place.is_player.Reads as is-player-reads
-use Rattle.frame_order.proofs.place.slot.Reads as slot-reads
-use Rattle.frame_order.proofs.due.slot_at.Reads as slot-at-reads
 
 is-inside-requires : tie.Need-is-inside-requires
 is-inside-requires c κs = search needs

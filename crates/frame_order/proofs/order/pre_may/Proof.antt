@@ -4,12 +4,6 @@ use Rattle.frame_order.proofs.Steps.{pre-not, pre-nobody, pre-may}
 use borrow.Author.Needs.{needs}
 use Rattle.frame_order.proofs.order.pre_may.Statement.{statement}
 use Rattle.frame_order.proofs.order.pre_may.Tie as tie
-use Rattle.frame_order.proofs.order.pre_may.Reads as reads
-use Rattle.frame_order.proofs.order.pre_may.Lts as lts
-use Rattle.frame_order.proofs.due.may_come.Reads as may-come-reads
-use Rattle.frame_order.proofs.order.may_stand.Reads as may-stand-reads
-use Rattle.frame_order.proofs.place.is_player.Reads as is-player-reads
-use Rattle.frame_order.proofs.place.slot.Reads as slot-reads
 
 may-stand-requires : tie.Need-may-stand-requires
 may-stand-requires c κs = search needs

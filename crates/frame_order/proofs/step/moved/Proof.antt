@@ -6,11 +6,6 @@ use Rattle.frame_order.proofs.Steps.{ready-as, after-as, row-after, kee
 use borrow.Author.Needs.{needs}
 use Rattle.frame_order.proofs.step.moved.Statement.{statement}
 use Rattle.frame_order.proofs.step.moved.Tie as tie
-use Rattle.frame_order.proofs.step.moved.Reads as reads
-use Rattle.frame_order.proofs.step.moved.Lts as lts
-use Rattle.frame_order.proofs.step.with_post.Reads as with-post-reads
-use Rattle.frame_order.proofs.step.with_pre.Reads as with-pre-reads
-use Rattle.frame_order.proofs.step.with_row.Reads as with-row-reads
 
 enum-told : tie.Need-enum-told
 enum-told c = search needs

@@ -4,8 +4,6 @@ use Rattle.frame_order.proofs.Steps.{post-less}
 use borrow.Author.Needs.{needs}
 use Rattle.frame_order.proofs.step.with_post.Statement.{statement}
 use Rattle.frame_order.proofs.step.with_post.Tie as tie
-use Rattle.frame_order.proofs.step.with_post.Reads as reads
-use Rattle.frame_order.proofs.step.with_post.Lts as lts
 
 add-t6 : tie.Need-add-t6
 add-t6 c = search needs

@@ -5,8 +5,6 @@ use Rattle.frame_order.proofs.Steps.{pre-first, pre-more}
 use borrow.Author.Needs.{needs}
 use Rattle.frame_order.proofs.step.with_pre.Statement.{statement}
 use Rattle.frame_order.proofs.step.with_pre.Tie as tie
-use Rattle.frame_order.proofs.step.with_pre.Reads as reads
-use Rattle.frame_order.proofs.step.with_pre.Lts as lts
 
 returns : tie.Need-returns
 returns c = let a = c .before .before .args in pre-first (a .file .now) (a .span) (a .m) (a .w) (a .at) (a .next) (c .before .before .pre) (omega arith)

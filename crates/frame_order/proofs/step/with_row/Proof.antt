@@ -3,8 +3,6 @@
 use Rattle.frame_order.proofs.Steps.{row-same}
 use Rattle.frame_order.proofs.step.with_row.Statement.{statement}
 use Rattle.frame_order.proofs.step.with_row.Tie as tie
-use Rattle.frame_order.proofs.step.with_row.Reads as reads
-use Rattle.frame_order.proofs.step.with_row.Lts as lts
 
 returns : tie.Need-returns
 returns c = let a = c .args in let h = c .pre in row-same (a .file .now) (a .span) (a .m) (a .rank) (a .w) (a .next) (h .0) (h .1)

@@ -5,12 +5,6 @@ use Rattle.format.proofs.Versions.{no-way}
 use Rattle.frame_scan.proofs.Compare.{eight-of}
 use Rattle.frame_scan.proofs.alike.eight_alike.Statement.{statement}
 use Rattle.frame_scan.proofs.alike.eight_alike.Tie as tie
-use Rattle.frame_scan.proofs.alike.eight_alike.Reads as reads
-use Rattle.frame_scan.proofs.alike.eight_alike.Lts as lts
-use Rattle.frame_scan.proofs.alike.eight_fit.Reads as eight-fit-reads
-use Rattle.frame_scan.proofs.alike.starts_alike.Reads as starts-alike-reads
-use Rattle.frame_scan.proofs.alike.rest_alike.Reads as rest-alike-reads
-use Rattle.frame_scan.proofs.event.span_of.Reads as span-of-reads
 
 sub-step : tie.Need-sub-step
 sub-step c = omega (arith, c .before .before .pre .0)
@@ -43,9 +37,12 @@ rest-alike-requires c κs =
     (h .0, omega (arith, h .0, h .1, h .2, f .1), h .3)
 
 returns : tie.Need-returns
-returns c = λ e.
-    eight-of (c .before .before .before .before .before .before .before .before .before .before .before .pre .1) (c .before .before .before .before .before .before .before .before .eight-fit .ensures (c .before .before .before .before .before .before .before .if1 .taken)) (c .before .before .before .before .before .if2 .taken) (c .before .before .starts-alike .ensures (c .before .if4 .taken)) (c .before .before .before .before .span-of .result)
-    (c .before .before .before .before .span-of .ensures .0) (c .rest-alike .ensures e)
+returns c =
+    let c4 = c .before .before .before .before in
+    let c11 = c4 .before .before .before .before .before .before .before in
+    λ e.
+    eight-of (c11 .pre .1) (c4 .before .before .before .before .eight-fit .ensures (c4 .before .before .before .if1 .taken)) (c4 .before .if2 .taken) (c .before .before .starts-alike .ensures (c .before .if4 .taken)) (c4 .span-of .result)
+    (c4 .span-of .ensures .0) (c .rest-alike .ensures e)
 
 returns-2 : tie.Need-returns-2
 returns-2 c = no-way

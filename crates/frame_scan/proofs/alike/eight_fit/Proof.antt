@@ -6,8 +6,6 @@ use borrow.Author.Tests.{leb-true}
 use Rattle.format.proofs.Versions.{no-way}
 use Rattle.frame_scan.proofs.alike.eight_fit.Statement.{statement}
 use Rattle.frame_scan.proofs.alike.eight_fit.Tie as tie
-use Rattle.frame_scan.proofs.alike.eight_fit.Reads as reads
-use Rattle.frame_scan.proofs.alike.eight_fit.Lts as lts
 
 returns : tie.Need-returns
 returns c = no-way

@@ -5,10 +5,6 @@ use Rattle.format.proofs.Versions.{no-way}
 use Rattle.frame_scan.proofs.Compare.{likes-end, likes-pre, likes-post}
 use Rattle.frame_scan.proofs.alike.event_alike.Statement.{statement}
 use Rattle.frame_scan.proofs.alike.event_alike.Tie as tie
-use Rattle.frame_scan.proofs.alike.event_alike.Reads as reads
-use Rattle.frame_scan.proofs.alike.event_alike.Lts as lts
-use Rattle.frame_scan.proofs.alike.heads_alike.Reads as heads-alike-reads
-use Rattle.frame_scan.proofs.alike.seats_alike.Reads as seats-alike-reads
 
 heads-alike-requires : tie.Need-heads-alike-requires
 heads-alike-requires c κs = c .before .pre

@@ -4,10 +4,6 @@ use mathlib.Core.Path.{sym, _∙_}
 use Rattle.format.proofs.Versions.{no-way}
 use Rattle.frame_scan.proofs.alike.goes_on.Statement.{statement}
 use Rattle.frame_scan.proofs.alike.goes_on.Tie as tie
-use Rattle.frame_scan.proofs.alike.goes_on.Reads as reads
-use Rattle.frame_scan.proofs.alike.goes_on.Lts as lts
-use Rattle.frame_order.proofs.place.is_closed.Reads as is-closed-reads
-use Rattle.frame_scan.proofs.alike.eight_alike.Reads as eight-alike-reads
 
 is-closed-requires : tie.Need-is-closed-requires
 is-closed-requires c κs = tt

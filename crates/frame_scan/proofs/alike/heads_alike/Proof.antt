@@ -7,9 +7,6 @@ use Rattle.frame_scan.specs.Alike.{Heads}
 use Rattle.frame_scan.proofs.Compare.{Along, along-start, along-step, along-in, four-same, heads-start, heads-step, heads-done}
 use Rattle.frame_scan.proofs.alike.heads_alike.Statement.{statement}
 use Rattle.frame_scan.proofs.alike.heads_alike.Tie as tie
-use Rattle.frame_scan.proofs.alike.heads_alike.Reads as reads
-use Rattle.frame_scan.proofs.alike.heads_alike.Lts as lts
-use Rattle.frame_scan.proofs.alike.four.Reads as four-reads
 
 abbrev Inv-loop : tie.InvT-loop
 Inv-loop file last e step code p₀ q₀ t₀ p q t = Along e step p t × Along last step q t × Heads file last e step t

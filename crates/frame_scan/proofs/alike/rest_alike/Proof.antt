@@ -6,10 +6,6 @@ use Rattle.format.proofs.Versions.{no-way}
 use Rattle.frame_scan.proofs.Compare.{Down, down-start, down-step, down-done}
 use Rattle.frame_scan.proofs.alike.rest_alike.Statement.{statement}
 use Rattle.frame_scan.proofs.alike.rest_alike.Tie as tie
-use Rattle.frame_scan.proofs.alike.rest_alike.Reads as reads
-use Rattle.frame_scan.proofs.alike.rest_alike.Lts as lts
-use Rattle.frame_scan.proofs.alike.event_alike.Reads as event-alike-reads
-use Rattle.frame_scan.proofs.event.span_of.Reads as span-of-reads
 
 abbrev Inv-loop : tie.InvT-loop
 Inv-loop file spans last first at step e₀ e = Down file spans last first at step e
@@ -45,7 +41,9 @@ loop-less : tie.Need-loop-less Inv-loop μ-loop
 loop-less c = omega (arith, c .before .before .if2 .left, c .before .before .before .if1 .left, c .before .before .before .before .before .before .loop-test .taken)
 
 loop-again : tie.Need-loop-again Inv-loop μ-loop
-loop-again c = down-step (c .before .before .before .before .before .before .before .loop .inv) (c .before .before .before .before .before .before .loop-test .taken) (c .before .before .before .before .span-of .result) (c .before .before .before .before .span-of .ensures .0) (c .before .event-alike .ensures (c .if3 .taken))
+loop-again c =
+    let c4 = c .before .before .before .before in
+    down-step (c4 .before .before .before .loop .inv) (c4 .before .before .loop-test .taken) (c4 .span-of .result) (c4 .span-of .ensures .0) (c .before .event-alike .ensures (c .if3 .taken))
 
 returns-3 : tie.Need-returns-3 Inv-loop μ-loop
 returns-3 c = no-way

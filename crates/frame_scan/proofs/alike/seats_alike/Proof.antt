@@ -7,9 +7,6 @@ use Rattle.frame_scan.specs.Alike.{Seats}
 use Rattle.frame_scan.proofs.Compare.{Along, along-start, along-step, along-in, seats-start, seats-step, seats-done}
 use Rattle.frame_scan.proofs.alike.seats_alike.Statement.{statement}
 use Rattle.frame_scan.proofs.alike.seats_alike.Tie as tie
-use Rattle.frame_scan.proofs.alike.seats_alike.Reads as reads
-use Rattle.frame_scan.proofs.alike.seats_alike.Lts as lts
-use Rattle.frame_scan.proofs.alike.two.Reads as two-reads
 
 abbrev Inv-loop : tie.InvT-loop
 Inv-loop file e step seat p₀ t₀ p t = Along e step p t × Seats file e step t

@@ -7,8 +7,6 @@ use Rattle.frame_scan.specs.Alike.{Starts}
 use Rattle.frame_scan.proofs.Compare.{Along, along-start, along-step, along-in, starts-start, starts-step, starts-done}
 use Rattle.frame_scan.proofs.alike.starts_alike.Statement.{statement}
 use Rattle.frame_scan.proofs.alike.starts_alike.Tie as tie
-use Rattle.frame_scan.proofs.alike.starts_alike.Reads as reads
-use Rattle.frame_scan.proofs.alike.starts_alike.Lts as lts
 
 abbrev Inv-loop : tie.InvT-loop
 Inv-loop file last step code p₀ t₀ p t = Along last step p t × Starts file last step t

@@ -6,8 +6,6 @@ use lib.ListN.{List·getD-eq-default}
 use borrow.Author.Needs.{needs}
 use Rattle.frame_scan.proofs.event.byte_at.Statement.{statement}
 use Rattle.frame_scan.proofs.event.byte_at.Tie as tie
-use Rattle.frame_scan.proofs.event.byte_at.Reads as reads
-use Rattle.frame_scan.proofs.event.byte_at.Lts as lts
 
 shared-slice-read-result : tie.Need-shared-slice-read-result
 shared-slice-read-result c = search needs

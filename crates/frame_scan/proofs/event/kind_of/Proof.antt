@@ -5,8 +5,6 @@ use borrow.Author.Tests.{eq-eqb, ne-eqb}
 use Rattle.grammar.specs.Machine.{familyOf}
 use Rattle.frame_scan.proofs.event.kind_of.Statement.{statement}
 use Rattle.frame_scan.proofs.event.kind_of.Tie as tie
-use Rattle.frame_scan.proofs.event.kind_of.Reads as reads
-use Rattle.frame_scan.proofs.event.kind_of.Lts as lts
 
 returns : tie.Need-returns
 unfolding familyOf
@@ -53,8 +51,20 @@ returns-8 c =
 returns-9 : tie.Need-returns-9
 unfolding familyOf
 returns-9 c =
-    let x = c .before .before .before .before .before .before .before .before .args .code in
-    rw (ne-eqb x 0x37 (c .before .before .before .before .before .before .before .if1 .left), ne-eqb x 0x38 (c .before .before .before .before .before .before .if2 .left), ne-eqb x 0x3A (c .before .before .before .before .before .if3 .left), ne-eqb x 0x3B (c .before .before .before .before .if4 .left), ne-eqb x 0x3C (c .before .before .before .if5 .left), ne-eqb x 0x3F (c .before .before .if6 .left), ne-eqb x 0x40 (c .before .if7 .left), ne-eqb x 0x41 (c .if8 .left))
+    let c5 = c .before .before .before .before .before in
+    let x = c5 .before .before .before .args .code in
+    rw (
+      ne-eqb x 0x37 (c5 .before .before .if1 .left),
+      ne-eqb x 0x38 (c5 .before .if2 .left),
+      ne-eqb x 0x3A (c5 .if3 .left),
+      ne-eqb x 0x3B
+          (c .before .before .before .before .if4 .left),
+      ne-eqb x 0x3C (c .before .before .before .if5 .left),
+      ne-eqb x 0x3F (c .before .before .if6 .left),
+      ne-eqb x 0x40
+          (c .before .if7 .left),
+      ne-eqb x 0x41 (c .if8 .left),
+    )
 
 pub kind-of-spec : {M : Type 1} → statement M
 kind-of-spec =

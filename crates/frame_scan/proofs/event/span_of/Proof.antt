@@ -7,9 +7,6 @@ use lib.ListN.{getD}
 use borrow.Author.Needs.{needs}
 use Rattle.frame_scan.proofs.event.span_of.Statement.{statement}
 use Rattle.frame_scan.proofs.event.span_of.Tie as tie
-use Rattle.frame_scan.proofs.event.span_of.Reads as reads
-use Rattle.frame_scan.proofs.event.span_of.Lts as lts
-use Rattle.wire.proofs.wide.Reads as wide-reads
 
 wide-requires : tie.Need-wide-requires
 wide-requires c κs = search needs

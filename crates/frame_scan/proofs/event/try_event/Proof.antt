@@ -9,12 +9,6 @@ use Rattle.frame_scan.proofs.Turns.{ready-if, not-fits, not-whole, not-
 use borrow.Author.Needs.{needs}
 use Rattle.frame_scan.proofs.event.try_event.Statement.{statement}
 use Rattle.frame_scan.proofs.event.try_event.Tie as tie
-use Rattle.frame_scan.proofs.event.try_event.Reads as reads
-use Rattle.frame_scan.proofs.event.try_event.Lts as lts
-use Rattle.frame_order.proofs.order.may.Reads as may-reads
-use Rattle.frame_order.proofs.step.moved.Reads as moved-reads
-use Rattle.frame_scan.proofs.sizes.fits.Reads as fits-reads
-use Rattle.frame_scan.proofs.event.word_at.Reads as word-at-reads
 
 fits-requires : tie.Need-fits-requires
 fits-requires c κs = search needs
@@ -27,7 +21,7 @@ word-at-requires c κs =
     let a = c .before .before .before .before .before .args in
     let h = c .before .before .before .before .before .pre .0 in
     let f = c .before .before .fits2 in
-    let o = orderOf (a .any) in
+    let o = orderOf (a .order) in
     let s = size-of (a .v) (a .n) (a .family) (f .result) (f .ensures) (c .before .if1 .taken) in
     omega (arith, s, big (a .family) (a .v), h .long, h .under)
 
@@ -39,10 +33,12 @@ add-next c = search needs
 
 moved-requires : tie.Need-moved-requires
 moved-requires c κs =
-    let a = c .before .before .before .before .before .before .before .before .args in
-    let h = c .before .before .before .before .before .before .before .before .pre .0 in
-    let f = c .before .before .before .before .before .fits2 in
-    let o = orderOf (a .any) in
+    let c5 = c .before .before .before .before .before in
+    let c8 = c5 .before .before .before in
+    let a = c8 .args in
+    let h = c8 .pre .0 in
+    let f = c5 .fits2 in
+    let o = orderOf (a .order) in
     let s = size-of (a .v) (a .n) (a .family) (f .result) (f .ensures) (c .before .before .before .before .if1 .taken) in
     let w = c .before .before .word-at in
     let y = c .before .may in (
@@ -54,21 +50,25 @@ moved-requires c κs =
 
 returns : tie.Need-returns
 returns c =
-    let a = c .before .before .before .before .before .before .before .before .before .args in
-    let h = c .before .before .before .before .before .before .before .before .before .pre .0 in
-    let f = c .before .before .before .before .before .before .fits2 in
-    let o = orderOf (a .any) in
+    let c5 = c .before .before .before .before .before in
+    let c9 = c5 .before .before .before .before in
+    let a = c9 .args in
+    let h = c9 .pre .0 in
+    let f = c5 .before .fits2 in
+    let o = orderOf (a .order) in
     let w = c .before .before .before .word-at in
     let y = c .before .before .may in
-    gone (a .v) o (a .file .now) (a .span) (a .stop) (a .m) (a .at) (a .n) (a .family) (f .result) (f .ensures) (c .before .before .before .before .before .if1 .taken) (h .under)
-    (omega arith) (w .result) (w .ensures) (y .result) (y .ensures) (c .before .if3 .taken) (a .at + a .n) refl h (c .moved .result) (c .moved .ensures)
+    gone (a .v) o (a .file .now) (a .span) (a .stop) (a .m) (a .at) (a .n) (a .family) (f .result) (f .ensures) (c5 .if1 .taken) (h .under)
+    (omega (arith, c .before .before .before .before .if2 .taken, h .under)) (w .result) (w .ensures) (y .result) (y .ensures) (c .before .if3 .taken) (a .at + a .n) refl h (c .moved .result) (c .moved .ensures)
 
 returns-2 : tie.Need-returns-2
 returns-2 c =
-    let a = c .before .before .before .before .before .before .before .before .args in
-    let h = c .before .before .before .before .before .before .before .before .pre .0 in
-    let f = c .before .before .before .before .before .fits2 in
-    let o = orderOf (a .any) in
+    let c5 = c .before .before .before .before .before in
+    let c8 = c5 .before .before .before in
+    let a = c8 .args in
+    let h = c8 .pre .0 in
+    let f = c5 .fits2 in
+    let o = orderOf (a .order) in
     let w = c .before .before .word-at in
     let y = c .before .may in
     not-orderly (a .v) o (a .file .now) (a .span) (a .stop) (a .m) (a .at) (a .n) (a .family) (f .result) (f .ensures) (c .before .before .before .before .if1 .taken) (h .under)
@@ -79,7 +79,7 @@ returns-3 c =
     let a = c .before .before .before .before .before .args in
     let h = c .before .before .before .before .before .pre .0 in
     let f = c .before .before .fits2 in
-    let o = orderOf (a .any) in
+    let o = orderOf (a .order) in
     not-whole (a .v) o (a .file .now) (a .span) (a .stop) (a .m) (a .at) (a .n) (a .family) (f .result) (f .ensures) (c .before .if1 .taken) (h .under) (omega arith)
 
 returns-4 : tie.Need-returns-4
@@ -87,7 +87,7 @@ returns-4 c =
     let a = c .before .before .before .before .args in
     let h = c .before .before .before .before .pre .0 in
     let f = c .before .fits2 in
-    let o = orderOf (a .any) in
+    let o = orderOf (a .order) in
     not-fits (a .v) o (a .file .now) (a .span) (a .stop) (a .m) (a .at) (a .n) (a .family) (f .result) (f .ensures) (c .if1 .left)
 
 pub try-event-spec : {M : Type 1} → statement M

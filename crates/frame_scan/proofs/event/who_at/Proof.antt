@@ -7,9 +7,6 @@ use lib.ListN.{getD, List·getD-eq-default}
 use borrow.Author.Needs.{needs}
 use Rattle.frame_scan.proofs.event.who_at.Statement.{statement}
 use Rattle.frame_scan.proofs.event.who_at.Tie as tie
-use Rattle.frame_scan.proofs.event.who_at.Reads as reads
-use Rattle.frame_scan.proofs.event.who_at.Lts as lts
-use Rattle.frame_scan.proofs.event.byte_at.Reads as byte-at-reads
 
 add-if1 : tie.Need-add-if1
 add-if1 c = search needs

@@ -3,10 +3,6 @@
 use borrow.Author.Needs.{needs}
 use Rattle.frame_scan.proofs.event.word_at.Statement.{statement}
 use Rattle.frame_scan.proofs.event.word_at.Tie as tie
-use Rattle.frame_scan.proofs.event.word_at.Reads as reads
-use Rattle.frame_scan.proofs.event.word_at.Lts as lts
-use Rattle.frame_scan.proofs.event.who_at.Reads as who-at-reads
-use Rattle.wire.proofs.get_be.Reads as get-be-reads
 
 who-at-requires : tie.Need-who-at-requires
 who-at-requires c κs = search needs

@@ -11,11 +11,6 @@ use Rattle.frame_scan.proofs.Counting.{under-to}
 use Rattle.frame_scan.proofs.Leaps.{Running, running-start, running-step, running-done, under-begun, some-begun, from-first}
 use Rattle.frame_scan.proofs.leap.leapt.Statement.{statement}
 use Rattle.frame_scan.proofs.leap.leapt.Tie as tie
-use Rattle.frame_scan.proofs.leap.leapt.Reads as reads
-use Rattle.frame_scan.proofs.leap.leapt.Lts as lts
-use Rattle.frame_scan.proofs.tally.begun.Reads as begun-reads
-use Rattle.frame_scan.proofs.tally.begun_next.Reads as begun-next-reads
-use Rattle.wire.proofs.get_be.Reads as get-be-reads
 
 abbrev Inv-loop : tie.InvT-loop
 Inv-loop file m last at step first y₀ old₀ p₀ t₀ y old p t = Running file (at + step) step old₀ y₀ old y p t × (0 < y .frames) × (t ≤ 7)
@@ -56,9 +51,10 @@ get-be-requires-2 c κs = (omega arith, omega (arith, along-to (c .before .loop 
 
 begun-next-requires : tie.Need-begun-next-requires Inv-loop μ-loop
 begun-next-requires c κs =
-    let a = c .before .before .before .before .before .before .args in
+    let c6 = c .before .before .before .before .before .before in
+    let a = c6 .args in
     let l = c .before .before .loop in
-    let h = c .before .before .before .before .before .before .pre in
+    let h = c6 .pre in
     (under-to (l .y) (a .at + (a .at - a .last) + l .t) (2 ^ 64 - 2) (l .inv .0 .under) (omega (arith, h .0, h .1, l .inv .2)), l .inv .1)
 
 add-p-2 : tie.Need-add-p-2 Inv-loop μ-loop

@@ -5,9 +5,6 @@ use Rattle.frame_scan.proofs.Spans.{fits-as, eight}
 use borrow.Author.Needs.{needs}
 use Rattle.frame_scan.proofs.sizes.fits.Statement.{statement}
 use Rattle.frame_scan.proofs.sizes.fits.Tie as tie
-use Rattle.frame_scan.proofs.sizes.fits.Reads as reads
-use Rattle.frame_scan.proofs.sizes.fits.Lts as lts
-use Rattle.frame_scan.proofs.sizes.index.Reads as index-reads
 
 index-requires : tie.Need-index-requires
 index-requires c κs = search needs

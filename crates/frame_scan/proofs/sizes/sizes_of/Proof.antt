@@ -4,9 +4,6 @@ use mathlib.Core.List.{[], _∷_}
 use borrow.Author.Needs.{needs}
 use Rattle.frame_scan.proofs.sizes.sizes_of.Statement.{statement}
 use Rattle.frame_scan.proofs.sizes.sizes_of.Tie as tie
-use Rattle.frame_scan.proofs.sizes.sizes_of.Reads as reads
-use Rattle.frame_scan.proofs.sizes.sizes_of.Lts as lts
-use Rattle.frame_scan.proofs.sizes.span_in.Reads as span-in-reads
 
 span-in-requires : tie.Need-span-in-requires
 span-in-requires c κs = search needs
@@ -33,7 +30,10 @@ span-in-requires-8 : tie.Need-span-in-requires-8
 span-in-requires-8 c κs = search needs
 
 returns : tie.Need-returns
-returns c = λ i. c .before .before .before .before .before .before .before .span-in .ensures i ∷ c .before .before .before .before .before .before .span-in2 .ensures i ∷ c .before .before .before .before .before .span-in3 .ensures i ∷ c .before .before .before .before .span-in4 .ensures i ∷ c .before .before .before .span-in5 .ensures i ∷ c .before .before .span-in6 .ensures i ∷ c .before .span-in7 .ensures i ∷ c .span-in8 .ensures i ∷ []
+returns c =
+    let c5 = c .before .before .before .before .before in
+    λ i. c5 .before .before .span-in .ensures i ∷ c5 .before .span-in2 .ensures i ∷ c5 .span-in3 .ensures i ∷ c .before .before .before .before .span-in4 .ensures i ∷
+    c .before .before .before .span-in5 .ensures i ∷ c .before .before .span-in6 .ensures i ∷ c .before .span-in7 .ensures i ∷ c .span-in8 .ensures i ∷ []
 
 pub sizes-of-spec : {M : Type 1} → statement M
 sizes-of-spec =

@@ -4,10 +4,6 @@ use Rattle.frame_scan.proofs.Spans.{span-has, span-lacks}
 use borrow.Author.Needs.{needs}
 use Rattle.frame_scan.proofs.sizes.span_in.Statement.{statement}
 use Rattle.frame_scan.proofs.sizes.span_in.Tie as tie
-use Rattle.frame_scan.proofs.sizes.span_in.Reads as reads
-use Rattle.frame_scan.proofs.sizes.span_in.Lts as lts
-use Rattle.layout.proofs.columns.Family.exists.Reads as exists-reads
-use Rattle.layout.proofs.payloads.record_size.Reads as record-size-reads
 
 exists-requires : tie.Need-exists-requires
 exists-requires c κs = search needs

@@ -8,14 +8,6 @@ use Rattle.frame_scan.specs.Counts.{countedOf}
 use Rattle.frame_scan.proofs.Counting.{counted-as}
 use Rattle.frame_scan.proofs.tally.counted.Statement.{statement}
 use Rattle.frame_scan.proofs.tally.counted.Tie as tie
-use Rattle.frame_scan.proofs.tally.counted.Reads as reads
-use Rattle.frame_scan.proofs.tally.counted.Lts as lts
-use Rattle.frame_scan.proofs.tally.begun.Reads as begun-reads
-use Rattle.frame_scan.proofs.tally.with_fod.Reads as with-fod-reads
-use Rattle.frame_scan.proofs.tally.with_item.Reads as with-item-reads
-use Rattle.frame_scan.proofs.tally.with_pre.Reads as with-pre-reads
-use Rattle.frame_scan.proofs.tally.with_stadium.Reads as with-stadium-reads
-use Rattle.frame_scan.proofs.tally.with_whispy.Reads as with-whispy-reads
 
 enum-told : tie.Need-enum-told
 enum-told c = search needs

@@ -12,9 +12,6 @@ use Rattle.frame_scan.proofs.Counting.{player-few}
 use borrow.Author.Needs.{needs}
 use Rattle.frame_scan.proofs.tally.with_player.Statement.{statement}
 use Rattle.frame_scan.proofs.tally.with_player.Tie as tie
-use Rattle.frame_scan.proofs.tally.with_player.Reads as reads
-use Rattle.frame_scan.proofs.tally.with_player.Lts as lts
-use Rattle.frame_order.proofs.place.slot.Reads as slot-reads
 
 slot-requires : tie.Need-slot-requires
 slot-requires c κs = search needs

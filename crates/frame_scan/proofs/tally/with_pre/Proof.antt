@@ -4,11 +4,6 @@ use borrow.Author.Needs.{needs}
 use Rattle.frame_scan.proofs.Counting.{pre-of-frame, pre-begins}
 use Rattle.frame_scan.proofs.tally.with_pre.Statement.{statement}
 use Rattle.frame_scan.proofs.tally.with_pre.Tie as tie
-use Rattle.frame_scan.proofs.tally.with_pre.Reads as reads
-use Rattle.frame_scan.proofs.tally.with_pre.Lts as lts
-use Rattle.frame_order.proofs.place.is_inside.Reads as is-inside-reads
-use Rattle.frame_scan.proofs.tally.begun.Reads as begun-reads
-use Rattle.frame_scan.proofs.tally.with_player.Reads as with-player-reads
 
 is-inside-requires : tie.Need-is-inside-requires
 is-inside-requires c κs = search needs

@@ -36,7 +36,9 @@ cast-n c = search needs
 
 -- the cells of the run at hand, and those of the runs after it
 ahead : (c : tie.After-n Inv-loop μ-loop)
-    → c .before .before .before .loop .from + (getD (c .before .before .before .before .before .args .t1 .lengths) (c .before .before .before .loop .k) 0 * c .before .before .before .before .before .args .rows + length (runsFrom (c .before .before .before .before .before .args .t1) (c .before .before .before .loop .k + 1)) * c .before .before .before .before .before .args .rows)
+    → c .before .before .before .loop .from + (getD (c .before .before .before .before .before .args .t1 .lengths)
+    (c .before .before .before .loop .k) 0 * c .before .before .before .before .before .args .rows + length
+    (runsFrom (c .before .before .before .before .before .args .t1) (c .before .before .before .loop .k + 1)) * c .before .before .before .before .before .args .rows)
     ≤ length (c .before .before .before .before .before .args .cells .now)
 ahead c =
     let l = c .before .before .before in

@@ -1,9 +1,8 @@
 -- `head::table::entries` meets its contract. The invariant: the first i entries stand in both arrays.
 -- Assumes nothing.
 use Prim.Native.Nat.{_≤_, _-_}
-use mathlib.Core.Path.{_≡_, refl, sym, _∙_}
+use mathlib.Core.Path.{refl}
 use native.Mathlib.Omega.{arith}
-use borrow.Author.Count.{below-none}
 use Rattle.head.proofs.Heads.{Filling, filling-more, filling-done}
 use Rattle.head.proofs.table.entries.Statement.{statement}
 use Rattle.head.proofs.table.entries.Tie as tie

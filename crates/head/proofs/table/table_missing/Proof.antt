@@ -4,7 +4,7 @@ use borrow.Author.Needs.{needs}
 use borrow.Author.Tests.{lt-ltb, le-ltb, eq-eqb, ne-eqb}
 use native.Mathlib.Omega.{arith}
 use mathlib.Core.Path.{sym}
-use Prim.Native.Nat.{_+_, _%_}
+use Prim.Native.Nat.{_%_}
 use lib.ListN.{getD}
 use denote.Ref.{now}
 use Rattle.head.specs.Table.{stopOf, tableMissing}

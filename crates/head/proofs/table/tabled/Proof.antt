@@ -6,7 +6,7 @@ use native.Mathlib.Omega.{arith}
 use mathlib.Core.Path.{_≡_, refl, sym, ap, _∙_}
 use denote.Ref.{now}
 use Rattle.head.specs.Table.{codeTwice, tableOf}
-use Rattle.head.specs.Inner.{listOf, Indexed}
+use Rattle.head.specs.Inner.{listOf}
 use Rattle.head.proofs.Heads.{table-there, first-by-size, list-is, none-there, twice-there, head-15, head-read}
 use Rattle.head.proofs.table.tabled.Statement.{statement}
 use Rattle.head.proofs.table.tabled.Tie as tie

@@ -101,20 +101,27 @@ returns-6 c =
 
 returns-7 : tie.Need-returns-7
 returns-7 c =
-    let s = c .before .before .before .before .before .before .before .before .before .before .before .before .before .before .before .before .before .before .before .before in
+    let c5 = c .before .before .before .before .before in
+    let c10 = c5 .before .before .before .before .before in
+    let c15 = c10 .before .before .before .before .before in
+    let s = c15 .before .before .before .before .before in
     let a = s .args in
-    let k = c .before .before .before .before .before .before .before .before .before .before .before .before .before .before .before .codes in
-    let p = c .before .before .before .before .before .before .before .before .before .before .before .before .before .c .given in
-    let r = c .before .before .before .before .before .before .before .before .before .frames in
-    let q = c .before .before .before .before .before .before .before .r .given in
+    let k = c15 .codes in
+    let p = c10 .before .before .before .c .given in
+    let r = c5 .before .before .before .before .frames in
+    let q = c5 .before .before .r .given in
     let e = c .before .before .before .ends in
     let m = c .before .e .given in
-    let x = c .before .before .before .before .before .before .before .before .before .before .before .before .before .before .before .before .before .start-fits in
-    let y = c .before .before .before .before .before .before .before .before .before .before .before .listed-right in
-    let z = c .before .before .before .before .before .changing in
-    all-held (a .file .now) (a .spans .now) (a .v) (a .first) (a .stop) (a .len) (s .pre) (k .result) (k .ensures) (p .0 .0) (p .0 .1 .0) (p .0 .1 .1 .0) (p .1) (r .result) (r .ensures .0) (r .ensures .1) (q .0 .0) (q .0 .1 .0) (q .1) (e .result) (e .ensures) (x .result) (y .result) (z .result) (x .ensures) (c .before .before .before .before .before .before .before .before .before .before .before .before .before .before .before .before .if1 .left) (y .ensures) (c .before .before .before .before .before .before .before .before .before .before .if2 .left) (z .ensures) (c .before .before .before .before .if3 .left) (m .0 .0) (m .1)
+    let x = c15 .before .before .start-fits in
+    let y = c10 .before .listed-right in
+    let z = c5 .changing in
+    all-held (a .file .now) (a .spans .now) (a .v) (a .first) (a .stop) (a .len) (s .pre) (k .result) (k .ensures) (p .0 .0) (p .0 .1 .0) (p .0 .1 .1 .0) (p .1) (r .result)
+    (r .ensures .0) (r .ensures .1) (q .0 .0) (q .0 .1 .0) (q .1) (e .result) (e .ensures) (x .result) (y .result) (z .result) (x .ensures) (c15 .before .if1 .left)
+    (y .ensures) (c10 .if2 .left) (z .ensures) (c .before .before .before .before .if3 .left) (m .0 .0) (m .1)
 
 pub judge-parts-spec : {M : Type 1} → statement M
 judge-parts-spec =
     tie.close
-    (tie.spec (λ c. search needs) add-codes-at-2 (λ c. search needs) start-fits-requires returns codes-requires (λ c. search needs) (λ c. search needs) returns-2 listed-right-requires returns-3 frames-requires (λ c. search needs) (λ c. search needs) returns-4 (λ c κs. search needs) returns-5 ends-requires (λ c. search needs) (λ c. search needs) returns-6 returns-7)
+    (tie.spec (λ c. search needs) add-codes-at-2 (λ c. search needs) start-fits-requires returns codes-requires (λ c. search needs)
+    (λ c. search needs) returns-2 listed-right-requires returns-3 frames-requires (λ c. search needs) (λ c. search needs) returns-4
+    (λ c κs. search needs) returns-5 ends-requires (λ c. search needs) (λ c. search needs) returns-6 returns-7)

@@ -64,7 +64,11 @@ pub +judge-map-spec : {M : Type 1} → statement M
     (λ c κs. tt)
     (λ c. record { fits = omega (arith, (c .before .before .before .before .before .before .before .before .before .before .before .before .good), (c .before .before .before .before .before .before .before .if1 .left)) })
     (λ c. omega (arith, (c .before .before .before .before .before .before .before .before .loop-test .taken)))
-    (λ c. judging-deep (c .before .before .before .before .before .before .before .before .before .loop .inv) (c .before .before .before .before .before .before .before .before .loop-test .taken) (c .before .before .before .before .before .before .before .if1 .left) ((c .before .before .before .before .cell .ensures) .0) ((c .before .before .before .cell2 .ensures) .0) (c .before .before .before .before .before .before .row-wrong .ensures) (c .before .before .before .before .before .lower2 .ensures) (c .before .before .if2 .taken) (c .before .if3 .taken) (c .lower3 .ensures))
+    (λ c.
+    let c5 = c .before .before .before .before .before in
+    judging-deep (c5 .before .before .before .before .loop .inv) (c5 .before .before .before .loop-test .taken) (c5 .before .before .if1 .left)
+    ((c .before .before .before .before .cell .ensures) .0) ((c .before .before .before .cell2 .ensures) .0) (c5 .before .row-wrong .ensures) (c5 .lower2 .ensures)
+    (c .before .before .if2 .taken) (c .before .if3 .taken) (c .lower3 .ensures))
     (λ c. record { fits = omega (arith, (c .before .before .before .before .before .before .before .before .before .before .before .good), (c .before .before .before .before .before .before .if1 .left)) })
     (λ c κs. omega (arith, (c .before .before .before .before .before .before .if1 .left)))
     (λ c. omega (arith, (c .before .if3 .left)))
@@ -74,11 +78,22 @@ pub +judge-map-spec : {M : Type 1} → statement M
     (λ c. record { fits = omega (arith, (c .before .before .before .before .before .before .before .before .before .before .before .before .loop .inv) .small, (c .before .before .before .before .before .before .before .cell .ensures) .1, (c .before .before .judge-map .ensures) .3) })
     (λ c κs. tt)
     (λ c. omega (arith, (c .before .before .before .before .before .before .before .before .before .before .before .before .loop-test .taken)))
-    (λ c. judging-nested (c .before .before .before .before .before .before .before .before .before .before .before .before .before .loop .inv) (c .before .before .before .before .before .before .before .before .before .before .before .before .loop-test .taken) (c .before .before .before .before .before .before .before .before .before .before .before .if1 .left) ((c .before .before .before .before .before .before .before .before .cell .ensures) .0) ((c .before .before .before .before .before .before .before .cell2 .ensures) .0) (c .before .before .before .before .before .before .before .before .before .before .row-wrong .ensures) (c .before .before .before .before .before .before .before .before .before .lower2 .ensures) (c .before .before .before .before .before .before .if2 .taken) (c .before .before .before .before .before .if3 .left) ((c .before .before .before .before .cell3 .ensures) .0) ((c .before .before .before .judge-map .ensures) .0) ((c .before .before .before .judge-map .ensures) .1) ((c .before .before .before .judge-map .ensures) .2) (c .before .before .lower4 .ensures) ((c .capped .ensures) .0) ((c .capped .ensures) .1))
+    (λ c.
+    let c3 = c .before .before .before in
+    let c8 = c3 .before .before .before .before .before in
+    let c13 = c8 .before .before .before .before .before in
+    judging-nested (c13 .loop .inv) (c8 .before .before .before .before .loop-test .taken) (c8 .before .before .before .if1 .left) ((c8 .cell .ensures) .0)
+    ((c3 .before .before .before .before .cell2 .ensures) .0) (c8 .before .before .row-wrong .ensures) (c8 .before .lower2 .ensures) (c3 .before .before .before .if2 .taken)
+    (c3 .before .before .if3 .left) ((c3 .before .cell3 .ensures) .0) ((c3 .judge-map .ensures) .0) ((c3 .judge-map .ensures) .1) ((c3 .judge-map .ensures) .2)
+    (c .before .before .lower4 .ensures) ((c .capped .ensures) .0) ((c .capped .ensures) .1))
     (λ c κs. omega (arith, (c .before .before .before .before .before .if1 .left)))
     (λ c. record { fits = omega (arith, (c .before .before .before .before .before .before .before .before .loop .inv) .small, (c .before .before .before .cell .ensures) .1, (c .plain-size .ensures) .0) })
     (λ c κs. tt)
     (λ c. record { fits = omega (arith, (c .before .before .before .before .before .before .before .before .before .before .before .before .good), (c .before .before .before .before .before .before .before .if1 .left)) })
     (λ c. omega (arith, (c .before .before .before .before .before .before .before .before .loop-test .taken)))
-    (λ c. judging-plain (c .before .before .before .before .before .before .before .before .before .loop .inv) (c .before .before .before .before .before .before .before .before .loop-test .taken) (c .before .before .before .before .before .before .before .if1 .left) ((c .before .before .before .before .cell .ensures) .0) ((c .before .before .before .cell2 .ensures) .0) (c .before .before .before .before .before .before .row-wrong .ensures) (c .before .before .before .before .before .lower2 .ensures) (c .before .before .if2 .left) ((c .before .plain-size .ensures) .1) ((c .capped2 .ensures) .0) ((c .capped2 .ensures) .1))
+    (λ c.
+    let c5 = c .before .before .before .before .before in
+    judging-plain (c5 .before .before .before .before .loop .inv) (c5 .before .before .before .loop-test .taken) (c5 .before .before .if1 .left)
+    ((c .before .before .before .before .cell .ensures) .0) ((c .before .before .before .cell2 .ensures) .0) (c5 .before .row-wrong .ensures) (c5 .lower2 .ensures)
+    (c .before .before .if2 .left) ((c .before .plain-size .ensures) .1) ((c .capped2 .ensures) .0) ((c .capped2 .ensures) .1))
     (λ c. judging-done (c .before .loop .inv) (c .loop-test .left))

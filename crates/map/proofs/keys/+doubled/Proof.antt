@@ -55,11 +55,28 @@ pub +doubled-spec : {M : Type 1} → statement M
     (λ c κs. omega (arith, (c .before .before .before .before .before .before .if1 .left)))
     (λ c. omega (arith, (c .before .if4 .taken)))
     (λ c κs. (omega (arith, (c .before .if4 .taken), (c .before .before .before .before .before .before .before .before .before .before .before .before .pre) .0), tt))
-    (λ c. doubling-inside (c .before .before .before .before .before .before .before .before .before .before .before .loop .inv) (c .before .before .before .before .before .before .before .before .before .before .loop-test .taken) (c .before .before .before .before .before .before .before .before .before .if1 .left) (c .before .before .before .before .before .before .before .before .repeats .ensures) (c .before .before .before .before .before .before .before .if2 .left) ((c .before .before .before .before .before .cell .ensures) .0) (c .before .before .before .before .if3 .taken) (c .before .before .before .if4 .taken) ((c .before .before .cell2 .ensures) .0) (c .before .doubled .ensures) (c .if5 .taken))
+    (λ c.
+    let c5 = c .before .before .before .before .before in
+    let c10 = c5 .before .before .before .before .before in
+    doubling-inside (c10 .before .loop .inv) (c10 .loop-test .taken) (c5 .before .before .before .before .if1 .left) (c5 .before .before .before .repeats .ensures)
+    (c5 .before .before .if2 .left) ((c5 .cell .ensures) .0) (c .before .before .before .before .if3 .taken) (c .before .before .before .if4 .taken)
+    ((c .before .before .cell2 .ensures) .0) (c .before .doubled .ensures) (c .if5 .taken))
     (λ c. omega (arith, (c .before .before .before .before .before .before .before .before .before .before .loop-test .taken)))
-    (λ c. doubling-nested (c .before .before .before .before .before .before .before .before .before .before .before .loop .inv) (c .before .before .before .before .before .before .before .before .before .before .loop-test .taken) (c .before .before .before .before .before .before .before .before .before .if1 .left) (c .before .before .before .before .before .before .before .before .repeats .ensures) (c .before .before .before .before .before .before .before .if2 .left) ((c .before .before .before .before .before .before .skip-rows .ensures) .0) ((c .before .before .before .before .before .before .skip-rows .ensures) .2 (omega arith) (omega (arith, (c .before .before .before .before .before .before .before .before .before .if1 .left)))) (c .before .before .before .if4 .taken) ((c .before .before .cell2 .ensures) .0) (c .before .doubled .ensures) (c .if5 .left))
+    (λ c.
+    let c6 = c .before .before .before .before .before .before in
+    let c9 = c6 .before .before .before in
+    doubling-nested (c9 .before .before .loop .inv) (c9 .before .loop-test .taken) (c9 .if1 .left) (c6 .before .before .repeats .ensures) (c6 .before .if2 .left)
+    ((c6 .skip-rows .ensures) .0) ((c6 .skip-rows .ensures) .2 (omega arith) (omega (arith, (c9 .if1 .left)))) (c .before .before .before .if4 .taken)
+    ((c .before .before .cell2 .ensures) .0) (c .before .doubled .ensures) (c .if5 .left))
     (λ c. omega (arith, (c .before .before .before .before .before .before .before .loop-test .taken)))
-    (λ c. doubling-deep (c .before .before .before .before .before .before .before .before .loop .inv) (c .before .before .before .before .before .before .before .loop-test .taken) (c .before .before .before .before .before .before .if1 .left) (c .before .before .before .before .before .repeats .ensures) (c .before .before .before .before .if2 .left) ((c .before .before .before .skip-rows .ensures) .0) ((c .before .before .before .skip-rows .ensures) .2 (omega arith) (omega (arith, (c .before .before .before .before .before .before .if1 .left)))) (c .if4 .left))
+    (λ c.
+    let c3 = c .before .before .before in
+    let c6 = c3 .before .before .before in
+    doubling-deep (c6 .before .before .loop .inv) (c6 .before .loop-test .taken) (c6 .if1 .left) (c3 .before .before .repeats .ensures) (c3 .before .if2 .left) ((c3 .skip-rows .ensures) .0) ((c3 .skip-rows .ensures) .2 (omega arith) (omega (arith, (c6 .if1 .left)))) (c .if4 .left))
     (λ c. omega (arith, (c .before .before .before .before .before .before .loop-test .taken)))
-    (λ c. doubling-plain (c .before .before .before .before .before .before .before .loop .inv) (c .before .before .before .before .before .before .loop-test .taken) (c .before .before .before .before .before .if1 .left) (c .before .before .before .before .repeats .ensures) (c .before .before .before .if2 .left) ((c .before .before .skip-rows .ensures) .0) ((c .before .before .skip-rows .ensures) .2 (omega arith) (omega (arith, (c .before .before .before .before .before .if1 .left)))) ((c .before .cell .ensures) .0) (c .if3 .left))
+    (λ c.
+    let c5 = c .before .before .before .before .before in
+    doubling-plain (c5 .before .before .loop .inv) (c5 .before .loop-test .taken) (c5 .if1 .left) (c .before .before .before .before .repeats .ensures)
+    (c .before .before .before .if2 .left) ((c .before .before .skip-rows .ensures) .0)
+    ((c .before .before .skip-rows .ensures) .2 (omega arith) (omega (arith, (c5 .if1 .left)))) ((c .before .cell .ensures) .0) (c .if3 .left))
     (λ c. doubling-done (c .before .loop .inv) (c .loop-test .left))

@@ -54,5 +54,8 @@ pub +skip-rows-spec : {M : Type 1} → statement M
     (λ c. omega (arith, (c .before .if3 .left)))
     (λ c κs. (omega (arith, (c .before .if3 .left), (c .before .before .before .before .before .before .before .before .pre) .0), tt))
     (λ c. omega (arith, (c .before .before .before .before .before .before .loop-test .taken)))
-    (λ c. skipping-nested (c .before .before .before .before .before .before .before .loop .inv) (c .before .before .before .before .before .before .loop-test .taken) (c .before .before .before .before .before .if1 .left) ((c .before .before .before .before .cell .ensures) .0) (c .before .before .before .if2 .left) (c .before .before .if3 .left) ((c .before .cell2 .ensures) .0) ((c .skip-rows .ensures) .0) ((c .skip-rows .ensures) .1))
+    (λ c.
+    let c5 = c .before .before .before .before .before in
+    skipping-nested (c5 .before .before .loop .inv) (c5 .before .loop-test .taken) (c5 .if1 .left) ((c .before .before .before .before .cell .ensures) .0)
+    (c .before .before .before .if2 .left) (c .before .before .if3 .left) ((c .before .cell2 .ensures) .0) ((c .skip-rows .ensures) .0) ((c .skip-rows .ensures) .1))
     (λ c. skipping-done (c .before .loop .inv) (c .loop-test .left))

@@ -1,6 +1,6 @@
 -- `map::keys::repeats` meets its contract.
 -- Assumes nothing.
-use mathlib.Core.Path.{_≡_, refl, sym, _∙_}
+use mathlib.Core.Path.{sym, _∙_}
 use native.Mathlib.Omega.{arith}
 use Prim.Native.Nat.{_-_}
 use Rattle.map.proofs.KeyLaws.{Looking, looking-start, looking-away, looking-done, looking-same, looking-more, after-is}
@@ -25,6 +25,10 @@ repeats-spec =
     (λ c. looking-same (c .before .before .before .before .before .key-stored .ensures) (c .before .before .before .before .if1 .taken) (c .before .before .before .loop .inv) (c .before .before .loop-test .taken) (c .before .same-key .ensures) (c .if2 .taken))
     (λ c κs. tt)
     (λ c. let far = (c .skip-rows .ensures) .2 (omega arith) (omega (arith, (c .before .before .before .loop-test .taken), (c .before .before .before .before .before .before .before .before .before .pre))) in omega (arith, far, (c .before .before .before .loop-test .taken)))
-    (λ c. looking-more (c .before .before .before .before .before .before .key-stored .ensures) (c .before .before .before .before .before .if1 .taken) (c .before .before .before .before .loop .inv) (c .before .before .before .loop-test .taken) (c .before .before .same-key .ensures) (c .before .if2 .left) (after-is _ _ _ _ (omega (arith, (c .before .before .before .loop-test .taken), (c .before .before .before .before .before .before .before .before .before .pre))) ((c .skip-rows .ensures) .0)))
+    (λ c.
+    let c3 = c .before .before .before in
+    let c9 = c3 .before .before .before .before .before .before in
+    looking-more (c3 .before .before .before .key-stored .ensures) (c3 .before .before .if1 .taken) (c3 .before .loop .inv) (c3 .loop-test .taken)
+    (c .before .before .same-key .ensures) (c .before .if2 .left) (after-is _ _ _ _ (omega (arith, (c3 .loop-test .taken), (c9 .pre))) ((c .skip-rows .ensures) .0)))
     (λ c. looking-done (c .before .before .before .key-stored .ensures) (c .before .before .if1 .taken) (c .before .loop .inv) (c .loop-test .left))
     (λ c. looking-away _ _ _ _ _ (c .before .key-stored .ensures) (c .if1 .left)))

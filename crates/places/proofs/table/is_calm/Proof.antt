@@ -28,7 +28,8 @@ is-bare-requires-4 c κs = let s = c .before .before .before .before .before .be
 
 returns-4 : tie.Need-returns-4
 returns-4 c =
-    λ e. bare-all _ _ _ _ (c .before .before .before .before .before .before .is-bare .ensures (c .before .before .before .before .before .if1 .taken)) (c .before .before .before .before .is-bare2 .ensures (c .before .before .before .if2 .taken)) (c .before .before .is-bare3 .ensures (c .before .if3 .taken)) (c .is-bare4 .ensures e)
+    let c5 = c .before .before .before .before .before in
+    λ e. bare-all _ _ _ _ (c5 .before .is-bare .ensures (c5 .if1 .taken)) (c .before .before .before .before .is-bare2 .ensures (c .before .before .before .if2 .taken)) (c .before .before .is-bare3 .ensures (c .before .if3 .taken)) (c .is-bare4 .ensures e)
 
 pub is-calm-spec : {M : Type 1} → statement M
 is-calm-spec =

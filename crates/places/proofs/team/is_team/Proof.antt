@@ -24,7 +24,9 @@ loop-holds : tie.Need-loop-holds Inv-loop μ-loop
 loop-holds c = (omega arith, λ u h. absurd (omega arith))
 
 is-steady-requires : tie.Need-is-steady-requires Inv-loop μ-loop
-is-steady-requires c κs = omega (arith, c .before .before .before .before .before .before .before .pre .2, c .before .before .before .before .before .before .before .pre .3)
+is-steady-requires c κs =
+    let c7 = c .before .before .before .before .before .before .before in
+    omega (arith, c7 .pre .2, c7 .pre .3)
 
 loop-again : tie.Need-loop-again Inv-loop μ-loop
 loop-again c =

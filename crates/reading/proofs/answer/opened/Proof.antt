@@ -26,8 +26,9 @@ cast-size c = record { fits = omega (arith, small _ _ _ _ (c .before .before .be
 
 returns : tie.Need-returns
 returns c =
-    let s = c .before .before .before .before .before .before .before .before .before .before in
-    λ a. opened-is _ _ _ _ a _ (s .pre .0) _ (c .before .before .before .before .before .before .frames-in .ensures) _ (c .before .before .before .codes-by .ensures) _ (c .before .before .before .before .before .before .before .before .places .ensures) _ (c .before .before .before .before .before .before .before .start-in .ensures) _ (c .before .before .before .before .before .end-by .ensures) _
+    let c5 = c .before .before .before .before .before in
+    let s = c5 .before .before .before .before .before in
+    λ a. opened-is _ _ _ _ a _ (s .pre .0) _ (c5 .before .frames-in .ensures) _ (c .before .before .before .codes-by .ensures) _ (c5 .before .before .before .places .ensures) _ (c5 .before .before .start-in .ensures) _ (c5 .end-by .ensures) _
     (c .before .before .before .before .mark .ensures) _ (c .before .mark2 .ensures)
 
 pub opened-spec : {M : Type 1} → statement M

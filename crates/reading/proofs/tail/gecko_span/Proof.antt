@@ -1,7 +1,7 @@
 -- `reading::tail::gecko_span` meets its contract. The invariant: the span is that of the entries that are left.
 -- Assumes nothing.
 use Prim.Native.Nat.{_≤_, _+_, _*_}
-use mathlib.Core.Path.{_≡_, refl, sym, _∙_}
+use mathlib.Core.Path.{_≡_}
 use native.Mathlib.Omega.{arith}
 use borrow.Author.Needs.{needs}
 use Rattle.found.specs.Found.{geckoSpan}

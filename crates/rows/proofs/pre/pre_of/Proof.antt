@@ -11,7 +11,10 @@ use Rattle.rows.proofs.pre.pre_of.Tie as tie
 returns : tie.Need-returns
 unfolding widthAt columnsOf
 returns c =
-    let a = c .before .before .before .before .before .before .before .before .before .before .before .args in
+    let c4 = c .before .before .before .before in
+    let c9 = c4 .before .before .before .before .before in
+    let c11 = c9 .before .before in
+    let a = c11 .args in
     let raw = a .t1 in
     λ i. record {
       version = a .version;
@@ -19,19 +22,19 @@ returns c =
       bits = raw;
       «random_seed» = getD raw 0 0;
       state = getD raw 1 0;
-      position = c .before .before .before .before .before .before .before .before .before .before .position-of .ensures i;
-      direction = c .before .before .before .before .before .before .before .before .before .float-of .ensures i;
-      joystick = c .before .before .before .before .before .before .before .before .position-of2 .ensures i;
-      cstick = c .before .before .before .before .before .before .before .position-of3 .ensures i;
-      triggers = c .before .before .before .before .before .before .float-of2 .ensures i;
+      position = c9 .before .position-of .ensures i;
+      direction = c9 .float-of .ensures i;
+      joystick = c4 .before .before .before .before .position-of2 .ensures i;
+      cstick = c4 .before .before .before .position-of3 .ensures i;
+      triggers = c4 .before .before .float-of2 .ensures i;
       buttons = getD raw 10 0;
       «buttons_physical» = getD raw 11 0;
-      «triggers_physical» = c .before .before .before .before .before .triggers-of .ensures i;
-      «raw_analog_x» = byte-field raw 14 (record { sfits = c .before .before .before .before .signed8 .ok }) (c .before .before .before .before .signed8 .ensures) (c .before .before .before .before .before .before .before .before .before .before .before .pre 14) i;
+      «triggers_physical» = c4 .before .triggers-of .ensures i;
+      «raw_analog_x» = byte-field raw 14 (record { sfits = c4 .signed8 .ok }) (c4 .signed8 .ensures) (c11 .pre 14) i;
       percent = c .before .before .before .float-of3 .ensures i;
-      «raw_analog_y» = byte-field raw 16 (record { sfits = c .before .before .signed82 .ok }) (c .before .before .signed82 .ensures) (c .before .before .before .before .before .before .before .before .before .before .before .pre 16) i;
-      «raw_analog_cstick_x» = byte-field raw 17 (record { sfits = c .before .signed83 .ok }) (c .before .signed83 .ensures) (c .before .before .before .before .before .before .before .before .before .before .before .pre 17) i;
-      «raw_analog_cstick_y» = byte-field raw 18 (record { sfits = c .signed84 .ok }) (c .signed84 .ensures) (c .before .before .before .before .before .before .before .before .before .before .before .pre 18) i;
+      «raw_analog_y» = byte-field raw 16 (record { sfits = c .before .before .signed82 .ok }) (c .before .before .signed82 .ensures) (c11 .pre 16) i;
+      «raw_analog_cstick_x» = byte-field raw 17 (record { sfits = c .before .signed83 .ok }) (c .before .signed83 .ensures) (c11 .pre 17) i;
+      «raw_analog_cstick_y» = byte-field raw 18 (record { sfits = c .signed84 .ok }) (c .signed84 .ensures) (c11 .pre 18) i;
     }
 
 pub pre-of-spec : {M : Type 1} → statement M

@@ -15,11 +15,15 @@ mul-put-players : tie.Need-mul-put-players
 mul-put-players c = omega (arith, slot-fits _ (c .before .before .before .before .before .before .before .pre .1) (c .before .before .columns .ensures .1))
 
 mul-put-players-2 : tie.Need-mul-put-players-2
-mul-put-players-2 c = omega (arith, first-fits _ _ _ _ (c .before .before .before .before .before .before .before .pre .1) (omega (arith, c .before .before .before .before .before .before .before .good)) (c .before .before .before .rows .ensures) (c .before .before .columns .ensures .0))
+mul-put-players-2 c =
+    let c7 = c .before .before .before .before .before .before .before in
+    omega (arith, first-fits _ _ _ _ (c7 .pre .1) (omega (arith, c7 .good)) (c .before .before .before .rows .ensures) (c .before .before .columns .ensures .0))
 
 -- the slot is one of those held
 held : (c : tie.After-put-players-arg) → c .before .before .before .before .before .before .before .args .slot < c .before .slots-of .result .count
-held c = omega (arith, slot-is (c .before .before .before .before .before .before .before .pre .0) (c .before .before .before .before .before .before .before .pre .1), c .before .slots-of .ensures .count)
+held c =
+    let c7 = c .before .before .before .before .before .before .before in
+    omega (arith, slot-is (c7 .pre .0) (c7 .pre .1), c .before .slots-of .ensures .count)
 
 mul-put-players-3 : tie.Need-mul-put-players-3
 mul-put-players-3 c = omega (arith, held c, c .before .slots-of .ensures .few)
@@ -49,8 +53,10 @@ same-length c = wrote-length (c .before .before .put-players .ensures)
 
 returns : tie.Need-returns
 returns c =
-    let slots = c .before .before .before .before .before .before .slots-of in
-    wrote-as (player-rows _ _ _ _ (c .before .before .before .before .before .before .before .before .rows .ensures) (c .before .before .before .before .before .before .before .columns .ensures .0) _ _ _ _ _ (c .before .before .before .before .before .before .before .before .before .before .before .before .pre .0) (mark-same _ (slots .result) (slots .ensures) _ _ (held (c .before .before .before .before .before)))) (c .before .before .put-players .ensures)
+    let c5 = c .before .before .before .before .before in
+    let c12 = c5 .before .before .before .before .before .before .before in
+    let slots = c5 .before .slots-of in
+    wrote-as (player-rows _ _ _ _ (c5 .before .before .before .rows .ensures) (c5 .before .before .columns .ensures .0) _ _ _ _ _ (c12 .pre .0) (mark-same _ (slots .result) (slots .ensures) _ _ (held (c5)))) (c .before .before .put-players .ensures)
 
 pub put-player-run-spec : {M : Type 1} → statement M
 put-player-run-spec =

@@ -31,15 +31,26 @@ put-cells-requires c κs =
 
 mul-out : tie.Need-mul-out Inv-loop μ-loop
 unfolding playerRow
-mul-out c = omega (arith, room-second (range-room _ (c .before .before .before .before .before .before .loop .i) _ (c .before .before .before .before .before .before .loop .inv .1) (c .before .before .before .before .before .loop-test .taken) (c .before .before .before .before .before .before .before .before .before .before .pre .0)) (c .before .before .put-cells .ensures) .fits, wrote-length (c .before .before .put-cells .ensures), c .before .before .before .before .before .before .loop .inv .1 .same, c .before .before .before .before .before .before .before .before .before .before .good)
+mul-out c =
+    let c5 = c .before .before .before .before .before in
+    let c6 = c5 .before in
+    let c10 = c6 .before .before .before .before in
+    omega (arith, room-second (range-room _ (c6 .loop .i) _ (c6 .loop .inv .1) (c5 .loop-test .taken) (c10 .pre .0)) (c .before .before .put-cells .ensures) .fits, wrote-length (c .before .before .put-cells .ensures), c6 .loop .inv .1 .same, c10 .good)
 
 slice-write-out : tie.Need-slice-write-out Inv-loop μ-loop
 unfolding playerRow
-slice-write-out c = omega (arith, room-second (range-room _ (c .before .before .before .before .before .before .loop .i) _ (c .before .before .before .before .before .before .loop .inv .1) (c .before .before .before .before .before .loop-test .taken) (c .before .before .before .before .before .before .before .before .before .before .pre .0)) (c .before .before .put-cells .ensures) .fits)
+slice-write-out c =
+    let c5 = c .before .before .before .before .before in
+    let c6 = c5 .before in
+    omega (arith, room-second (range-room _ (c6 .loop .i) _ (c6 .loop .inv .1) (c5 .loop-test .taken) (c6 .before .before .before .before .pre .0)) (c .before .before .put-cells .ensures) .fits)
 
 add-p : tie.Need-add-p Inv-loop μ-loop
 unfolding playerRow
-add-p c = omega (arith, room-second (range-room _ (c .before .before .before .before .before .before .loop .i) _ (c .before .before .before .before .before .before .loop .inv .1) (c .before .before .before .before .before .loop-test .taken) (c .before .before .before .before .before .before .before .before .before .before .pre .0)) (c .before .before .put-cells .ensures) .fits, wrote-length (c .before .before .put-cells .ensures), c .before .before .before .before .before .before .loop .inv .1 .same, c .before .before .before .before .before .before .before .before .before .before .good)
+add-p c =
+    let c5 = c .before .before .before .before .before in
+    let c6 = c5 .before in
+    let c10 = c6 .before .before .before .before in
+    omega (arith, room-second (range-room _ (c6 .loop .i) _ (c6 .loop .inv .1) (c5 .loop-test .taken) (c10 .pre .0)) (c .before .before .put-cells .ensures) .fits, wrote-length (c .before .before .put-cells .ensures), c6 .loop .inv .1 .same, c10 .good)
 
 add-i : tie.Need-add-i Inv-loop μ-loop
 add-i c = omega (arith, c .before .before .before .before .before .loop-test .taken, c .before .before .before .before .before .before .before .before .before .before .good)

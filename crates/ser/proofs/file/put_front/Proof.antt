@@ -15,18 +15,24 @@ put-u32-requires c κs = room-first _ (room-second (room-as (front-parts _ _ _ _
 
 put-table-requires : tie.Need-put-table-requires
 put-table-requires c κs =
-    let r = room-as (front-parts _ _ _ _ _ _ _ (sym (c .is-given .ensures)) refl) (c .before .before .before .before .before .before .before .before .before .before .before .pre .1) in
-    (c .before .before .before .before .before .before .before .before .before .before .before .pre .0, room-first _ (room-second (room-second r (c .before .before .before .before .before .before .before .before .put-signature .ensures)) (c .before .before .before .before .put-u32 .ensures)))
+    let c8 = c .before .before .before .before .before .before .before .before in
+    let c11 = c8 .before .before .before in
+    let r = room-as (front-parts _ _ _ _ _ _ _ (sym (c .is-given .ensures)) refl) (c11 .pre .1) in
+    (c11 .pre .0, room-first _ (room-second (room-second r (c8 .put-signature .ensures)) (c .before .before .before .before .put-u32 .ensures)))
 
 put-u8-requires : tie.Need-put-u8-requires
 put-u8-requires c κs =
-    let r = room-as (front-parts _ _ _ _ _ _ _ (sym (c .before .before .before .before .before .is-given .ensures)) (sym (c .code .ensures))) (c .before .before .before .before .before .before .before .before .before .before .before .before .before .before .before .before .pre .1) in
-    room-second (room-second (room-second r (c .before .before .before .before .before .before .before .before .before .before .before .before .before .put-signature .ensures)) (c .before .before .before .before .before .before .before .before .before .put-u32 .ensures)) (c .before .before .before .before .put-table .ensures)
+    let c5 = c .before .before .before .before .before in
+    let c13 = c5 .before .before .before .before .before .before .before .before in
+    let r = room-as (front-parts _ _ _ _ _ _ _ (sym (c5 .is-given .ensures)) (sym (c .code .ensures))) (c13 .before .before .before .pre .1) in
+    room-second (room-second (room-second r (c13 .put-signature .ensures)) (c5 .before .before .before .before .put-u32 .ensures)) (c .before .before .before .before .put-table .ensures)
 
 returns : tie.Need-returns
 returns c =
-    wrote-as (sym (front-parts _ _ _ _ _ _ _ (sym (c .before .before .before .before .before .before .before .before .is-given .ensures)) (sym (c .before .before .before .code .ensures))))
-    (wrote-then (c .before .before .before .before .before .before .before .before .before .before .before .before .before .before .before .before .put-signature .ensures) (wrote-then (c .before .before .before .before .before .before .before .before .before .before .before .before .put-u32 .ensures) (wrote-then (c .before .before .before .before .before .before .before .put-table .ensures) (c .before .before .put-u8 .ensures))))
+    let c7 = c .before .before .before .before .before .before .before in
+    let c12 = c7 .before .before .before .before .before in
+    wrote-as (sym (front-parts _ _ _ _ _ _ _ (sym (c7 .before .is-given .ensures)) (sym (c .before .before .before .code .ensures))))
+    (wrote-then (c12 .before .before .before .before .put-signature .ensures) (wrote-then (c12 .put-u32 .ensures) (wrote-then (c7 .put-table .ensures) (c .before .before .put-u8 .ensures))))
 
 pub put-front-spec : {M : Type 1} → statement M
 put-front-spec =

@@ -15,39 +15,48 @@ returns c = stopped _ _ (with-bytes _ _ (c .before .judge .ensures) (c .before .
 
 returns-2 : tie.Need-returns-2
 unfolding judged
-returns-2 c = went-on _ _ _ (with-bytes _ _ (c .before .before .before .judge .ensures) (c .before .before .before .before .before .given-bytes .ensures) (c .before .before .before .before .given-bytes2 .ensures)) (c .before .before .if1 .left) (numbered _ _ _ _) (here 8 _ _ (sym (c .before .block-wrong .ensures) ∙ c .if2 .taken))
+returns-2 c =
+    let c5 = c .before .before .before .before .before in
+    went-on _ _ _ (with-bytes _ _ (c .before .before .before .judge .ensures) (c5 .given-bytes .ensures) (c .before .before .before .before .given-bytes2 .ensures)) (c .before .before .if1 .left) (numbered _ _ _ _) (here 8 _ _ (sym (c .before .block-wrong .ensures) ∙ c .if2 .taken))
 
 returns-3 : tie.Need-returns-3
 unfolding judged
 returns-3 c =
-    went-on _ _ _ (with-bytes _ _ (c .before .before .before .before .before .before .judge .ensures) (c .before .before .before .before .before .before .before .before .given-bytes .ensures) (c .before .before .before .before .before .before .before .given-bytes2 .ensures)) (c .before .before .before .before .before .if1 .left) (numbered _ _ _ _)
+    let c5 = c .before .before .before .before .before in
+    went-on _ _ _ (with-bytes _ _ (c5 .before .judge .ensures) (c5 .before .before .before .given-bytes .ensures) (c5 .before .before .given-bytes2 .ensures)) (c5 .if1 .left) (numbered _ _ _ _)
     (skip 8 _ _ _ (sym (c .before .before .before .before .block-wrong .ensures) ∙ c .before .before .before .if2 .left)
     (here 9 _ _ (sym (c .before .is-bad-start .ensures) ∙ c .if3 .taken)))
 
 returns-4 : tie.Need-returns-4
 unfolding judged
 returns-4 c =
-    went-on _ _ _ (with-bytes _ _ (c .before .before .before .before .before .before .before .before .before .judge .ensures) (c .before .before .before .before .before .before .before .before .before .before .before .given-bytes .ensures) (c .before .before .before .before .before .before .before .before .before .before .given-bytes2 .ensures)) (c .before .before .before .before .before .before .before .before .if1 .left) (numbered _ _ _ _)
-    (skip 8 _ _ _ (sym (c .before .before .before .before .before .before .before .block-wrong .ensures) ∙ c .before .before .before .before .before .before .if2 .left)
+    let c6 = c .before .before .before .before .before .before in
+    let c11 = c6 .before .before .before .before .before in
+    went-on _ _ _ (with-bytes _ _ (c6 .before .before .before .judge .ensures) (c11 .given-bytes .ensures) (c6 .before .before .before .before .given-bytes2 .ensures)) (c6 .before .before .if1 .left) (numbered _ _ _ _)
+    (skip 8 _ _ _ (sym (c6 .before .block-wrong .ensures) ∙ c6 .if2 .left)
     (skip 9 _ _ _ (sym (c .before .before .before .before .is-bad-start .ensures) ∙ c .before .before .before .if3 .left)
     (here 10 _ _ (sym (codes-as _ _ _ _ _ (c .before .codes-wrong .ensures) (c .before .before .is-given .ensures)) ∙ c .if4 .taken))))
 
 returns-5 : tie.Need-returns-5
 unfolding judged
 returns-5 c =
-    went-on _ _ _ (with-bytes _ _ (c .before .before .before .before .before .before .before .before .before .before .before .before .judge .ensures) (c .before .before .before .before .before .before .before .before .before .before .before .before .before .before .given-bytes .ensures) (c .before .before .before .before .before .before .before .before .before .before .before .before .before .given-bytes2 .ensures)) (c .before .before .before .before .before .before .before .before .before .before .before .if1 .left) (numbered _ _ _ _)
-    (skip 8 _ _ _ (sym (c .before .before .before .before .before .before .before .before .before .before .block-wrong .ensures) ∙ c .before .before .before .before .before .before .before .before .before .if2 .left)
-    (skip 9 _ _ _ (sym (c .before .before .before .before .before .before .before .is-bad-start .ensures) ∙ c .before .before .before .before .before .before .if3 .left)
-    (skip 10 _ _ _ (sym (codes-as _ _ _ _ _ (c .before .before .before .before .codes-wrong .ensures) (c .before .before .before .before .before .is-given .ensures)) ∙ c .before .before .before .if4 .left)
+    let c5 = c .before .before .before .before .before in
+    let c10 = c5 .before .before .before .before .before in
+    went-on _ _ _ (with-bytes _ _ (c10 .before .before .judge .ensures) (c10 .before .before .before .before .given-bytes .ensures) (c10 .before .before .before .given-bytes2 .ensures)) (c10 .before .if1 .left) (numbered _ _ _ _)
+    (skip 8 _ _ _ (sym (c10 .block-wrong .ensures) ∙ c5 .before .before .before .before .if2 .left)
+    (skip 9 _ _ _ (sym (c5 .before .before .is-bad-start .ensures) ∙ c5 .before .if3 .left)
+    (skip 10 _ _ _ (sym (codes-as _ _ _ _ _ (c .before .before .before .before .codes-wrong .ensures) (c5 .is-given .ensures)) ∙ c .before .before .before .if4 .left)
     (here 11 _ _ (sym (c .before .end-wrong .ensures) ∙ c .if5 .taken)))))
 
 returns-6 : tie.Need-returns-6
 unfolding judged
 returns-6 c =
-    went-on _ _ _ (with-bytes _ _ (c .before .before .before .before .before .before .before .before .before .before .before .before .judge .ensures) (c .before .before .before .before .before .before .before .before .before .before .before .before .before .before .given-bytes .ensures) (c .before .before .before .before .before .before .before .before .before .before .before .before .before .given-bytes2 .ensures)) (c .before .before .before .before .before .before .before .before .before .before .before .if1 .left) (numbered _ _ _ _)
-    (skip 8 _ _ _ (sym (c .before .before .before .before .before .before .before .before .before .before .block-wrong .ensures) ∙ c .before .before .before .before .before .before .before .before .before .if2 .left)
-    (skip 9 _ _ _ (sym (c .before .before .before .before .before .before .before .is-bad-start .ensures) ∙ c .before .before .before .before .before .before .if3 .left)
-    (skip 10 _ _ _ (sym (codes-as _ _ _ _ _ (c .before .before .before .before .codes-wrong .ensures) (c .before .before .before .before .before .is-given .ensures)) ∙ c .before .before .before .if4 .left)
+    let c5 = c .before .before .before .before .before in
+    let c10 = c5 .before .before .before .before .before in
+    went-on _ _ _ (with-bytes _ _ (c10 .before .before .judge .ensures) (c10 .before .before .before .before .given-bytes .ensures) (c10 .before .before .before .given-bytes2 .ensures)) (c10 .before .if1 .left) (numbered _ _ _ _)
+    (skip 8 _ _ _ (sym (c10 .block-wrong .ensures) ∙ c5 .before .before .before .before .if2 .left)
+    (skip 9 _ _ _ (sym (c5 .before .before .is-bad-start .ensures) ∙ c5 .before .if3 .left)
+    (skip 10 _ _ _ (sym (codes-as _ _ _ _ _ (c .before .before .before .before .codes-wrong .ensures) (c5 .is-given .ensures)) ∙ c .before .before .before .if4 .left)
     (skip 11 _ _ _ (sym (c .before .end-wrong .ensures) ∙ c .if5 .left) none))))
 
 pub refused-spec : {M : Type 1} → statement M

@@ -1,6 +1,5 @@
 -- `ser::length::tail_len` meets its contract.
 -- Assumes nothing.
-use mathlib.Core.Path.{refl}
 use native.Mathlib.Omega.{arith}
 use borrow.Author.Needs.{needs}
 use Rattle.ser.proofs.length.tail_len.Statement.{statement}

@@ -27,37 +27,55 @@ tail-len-requires c κs = let p = passes _ _ (sym (c .before .before .before .be
 
 returns-2 : tie.Need-returns-2
 returns-2 c =
-    let p = passes _ _ (sym (c .before .before .before .before .before .before .before .before .refused .ensures) ∙ c .before .before .before .before .before .before .before .if1 .left) in
-    short-refused _ _ (c .before .before .before .before .before .before .before .before .refused .ensures) (c .before .before .before .before .before .before .before .if1 .left) (total-is p _ (c .before .before .before .before .raw-len .ensures .0) _ _ _ (c .before .before .before .is-given .ensures) (c .before .before .given-bytes .ensures) (c .before .tail-len .ensures .0)) (c .if2 .taken)
+    let c7 = c .before .before .before .before .before .before .before in
+    let c8 = c7 .before in
+    let p = passes _ _ (sym (c8 .refused .ensures) ∙ c7 .if1 .left) in
+    short-refused _ _ (c8 .refused .ensures) (c7 .if1 .left) (total-is p _ (c .before .before .before .before .raw-len .ensures .0) _ _ _ (c .before .before .before .is-given .ensures) (c .before .before .given-bytes .ensures) (c .before .tail-len .ensures .0)) (c .if2 .taken)
 
 cast-put-front : tie.Need-cast-put-front
 cast-put-front c =
-    let p = passes _ _ (sym (c .before .before .before .before .before .before .before .before .before .refused .ensures) ∙ c .before .before .before .before .before .before .before .before .if1 .left) in
-    let h = raw-fits p _ (c .before .before .before .before .before .raw-len .ensures .0) (omega (arith, c .before .before .before .before .before .before .slots-of .ensures .count, c .before .before .before .before .before .before .slots-of .ensures .few)) in
+    let c5 = c .before .before .before .before .before in
+    let c6 = c5 .before in
+    let p = passes _ _ (sym (c6 .before .before .before .refused .ensures) ∙ c6 .before .before .if1 .left) in
+    let h = raw-fits p _ (c5 .raw-len .ensures .0) (omega (arith, c6 .slots-of .ensures .count, c6 .slots-of .ensures .few)) in
     record { fits = h }
 
 put-front-requires : tie.Need-put-front-requires
 put-front-requires c κs =
-    let p = passes _ _ (sym (c .before .before .before .before .before .before .before .before .before .refused .ensures) ∙ c .before .before .before .before .before .before .before .before .if1 .left) in
-    (omega (arith, block-fits _ _ (p .block)), room-first _ (room p _ (c .before .before .before .before .before .raw-len .ensures .0) _ (total-is p _ (c .before .before .before .before .before .raw-len .ensures .0) _ _ _ (c .before .before .before .before .is-given .ensures) (c .before .before .before .given-bytes .ensures) (c .before .before .tail-len .ensures .0)) (c .before .if2 .left)))
+    let c5 = c .before .before .before .before .before in
+    let p = passes _ _ (sym (c5 .before .before .before .before .refused .ensures) ∙ c5 .before .before .before .if1 .left) in (
+      omega (arith, block-fits _ _ (p .block)),
+      room-first _
+          (room p _ (c5 .raw-len .ensures .0) _ (total-is p _ (c5 .raw-len .ensures .0) _ _ _ (c .before .before .before .before .is-given .ensures) (c .before .before .before .given-bytes .ensures) (c .before .before .tail-len .ensures .0)) (c .before .if2 .left)),
+    )
 
 put-block-requires : tie.Need-put-block-requires
 put-block-requires c κs =
-    let p = passes _ _ (sym (c .before .before .before .before .before .before .before .before .before .before .before .before .before .refused .ensures) ∙ c .before .before .before .before .before .before .before .before .before .before .before .before .if1 .left) in
-    let r = room p _ (c .before .before .before .before .before .before .before .before .before .raw-len .ensures .0) _ (total-is p _ (c .before .before .before .before .before .before .before .before .before .raw-len .ensures .0) _ _ _ (c .before .before .before .before .before .before .before .before .is-given .ensures) (c .before .before .before .before .before .before .before .given-bytes .ensures) (c .before .before .before .before .before .before .tail-len .ensures .0)) (c .before .before .before .before .before .if2 .left) in
+    let c5 = c .before .before .before .before .before in
+    let c9 = c5 .before .before .before .before in
+    let p = passes _ _ (sym (c9 .before .before .before .before .refused .ensures) ∙ c9 .before .before .before .if1 .left) in
+    let r = room p _ (c9 .raw-len .ensures .0) _ (total-is p _ (c9 .raw-len .ensures .0) _ _ _ (c5 .before .before .before .is-given .ensures) (c5 .before .before .given-bytes .ensures) (c5 .before .tail-len .ensures .0)) (c5 .if2 .left) in
     (block-fits _ _ (p .block) .0, p .start, room-first _ (room-second r (c .before .before .before .put-front .ensures)))
 
 put-rest-requires : tie.Need-put-rest-requires
 put-rest-requires c κs =
-    let p = passes _ _ (sym (c .before .before .before .before .before .before .before .before .before .before .before .before .before .before .before .before .before .refused .ensures) ∙ c .before .before .before .before .before .before .before .before .before .before .before .before .before .before .before .before .if1 .left) in
-    let r = room p _ (c .before .before .before .before .before .before .before .before .before .before .before .before .before .raw-len .ensures .0) _ (total-is p _ (c .before .before .before .before .before .before .before .before .before .before .before .before .before .raw-len .ensures .0) _ _ _ (c .before .before .before .before .before .before .before .before .before .before .before .before .is-given .ensures) (c .before .before .before .before .before .before .before .before .before .before .before .given-bytes .ensures) (c .before .before .before .before .before .before .before .before .before .before .tail-len .ensures .0)) (c .before .before .before .before .before .before .before .before .before .if2 .left) in
-    (whole p, framed (p .frames), c .before .before .before .before .before .before .before .before .before .before .before .before .before .before .slots-of .ensures, room-second (room-second r (c .before .before .before .before .before .before .before .put-front .ensures)) (c .before .before .before .put-block .ensures))
+    let c7 = c .before .before .before .before .before .before .before in
+    let c12 = c7 .before .before .before .before .before in
+    let c13 = c12 .before in
+    let p = passes _ _ (sym (c13 .before .before .before .before .refused .ensures) ∙ c13 .before .before .before .if1 .left) in
+    let r = room p _ (c13 .raw-len .ensures .0) _ (total-is p _ (c13 .raw-len .ensures .0) _ _ _ (c12 .is-given .ensures) (c7 .before .before .before .before .given-bytes .ensures) (c7 .before .before .before .tail-len .ensures .0)) (c7 .before .before .if2 .left) in
+    (whole p, framed (p .frames), c13 .before .slots-of .ensures, room-second (room-second r (c7 .put-front .ensures)) (c .before .before .before .put-block .ensures))
 
 returns-3 : tie.Need-returns-3
 returns-3 c =
-    let p = passes _ _ (sym (c .before .before .before .before .before .before .before .before .before .before .before .before .before .before .before .before .before .before .before .before .refused .ensures) ∙ c .before .before .before .before .before .before .before .before .before .before .before .before .before .before .before .before .before .before .before .if1 .left) in
-    written _ _ (c .before .before .before .before .before .before .before .before .before .before .before .before .before .before .before .before .before .before .before .before .refused .ensures) (c .before .before .before .before .before .before .before .before .before .before .before .before .before .before .before .before .before .before .before .if1 .left) (total-is p _ (c .before .before .before .before .before .before .before .before .before .before .before .before .before .before .before .before .raw-len .ensures .0) _ _ _ (c .before .before .before .before .before .before .before .before .before .before .before .before .before .before .before .is-given .ensures) (c .before .before .before .before .before .before .before .before .before .before .before .before .before .before .given-bytes .ensures) (c .before .before .before .before .before .before .before .before .before .before .before .before .before .tail-len .ensures .0)) (c .before .before .before .before .before .before .before .before .before .before .before .before .if2 .left)
-    (wrote-as (sym (file-as p _ (c .before .before .before .before .before .before .before .before .before .before .before .before .before .before .before .before .raw-len .ensures .0))) (wrote-then (c .before .before .before .before .before .before .before .before .before .before .put-front .ensures) (wrote-then (c .before .before .before .before .before .before .put-block .ensures) (c .before .before .put-rest .ensures))))
+    let c6 = c .before .before .before .before .before .before in
+    let c12 = c6 .before .before .before .before .before .before in
+    let c16 = c12 .before .before .before .before in
+    let c19 = c16 .before .before .before in
+    let c20 = c19 .before in
+    let p = passes _ _ (sym (c20 .refused .ensures) ∙ c19 .if1 .left) in
+    written _ _ (c20 .refused .ensures) (c19 .if1 .left) (total-is p _ (c16 .raw-len .ensures .0) _ _ _ (c12 .before .before .before .is-given .ensures) (c12 .before .before .given-bytes .ensures) (c12 .before .tail-len .ensures .0)) (c12 .if2 .left)
+    (wrote-as (sym (file-as p _ (c16 .raw-len .ensures .0))) (wrote-then (c6 .before .before .before .before .put-front .ensures) (wrote-then (c6 .put-block .ensures) (c .before .before .put-rest .ensures))))
 
 pub write-spec : {M : Type 1} → statement M
 write-spec =

@@ -9,13 +9,19 @@ use Rattle.start_read.proofs.block.start_of.Statement.{statement}
 use Rattle.start_read.proofs.block.start_of.Tie as tie
 
 flag-if-requires : tie.Need-flag-if-requires
-flag-if-requires c κs = λ on. omega (arith, c .before .before .before .before .before .before .before .before .before .before .before .before .pre, long-enough (c .before .before .before .before .before .before .before .before .before .before .before .before .args .v) 6 on)
+flag-if-requires c κs =
+    let c12 = c .before .before .before .before .before .before .before .before .before .before .before .before in
+    λ on. omega (arith, c12 .pre, long-enough (c12 .args .v) 6 on)
 
 flag-if-requires-2 : tie.Need-flag-if-requires-2
-flag-if-requires-2 c κs = λ on. omega (arith, c .before .before .before .before .before .before .before .before .before .before .before .before .before .pre, long-enough (c .before .before .before .before .before .before .before .before .before .before .before .before .before .args .v) 5 on)
+flag-if-requires-2 c κs =
+    let c13 = c .before .before .before .before .before .before .before .before .before .before .before .before .before in
+    λ on. omega (arith, c13 .pre, long-enough (c13 .args .v) 5 on)
 
 byte-if-requires : tie.Need-byte-if-requires
-byte-if-requires c κs = λ on. omega (arith, c .before .before .before .before .before .before .before .before .before .before .before .before .before .before .before .pre, long-enough (c .before .before .before .before .before .before .before .before .before .before .before .before .before .before .before .args .v) 1 on)
+byte-if-requires c κs =
+    let c15 = c .before .before .before .before .before .before .before .before .before .before .before .before .before .before .before in
+    λ on. omega (arith, c15 .pre, long-enough (c15 .args .v) 1 on)
 
 match-in-requires : tie.Need-match-in-requires
 match-in-requires c κs = c .before .before .before .before .before .before .before .before .before .before .before .before .before .before .before .before .pre .1

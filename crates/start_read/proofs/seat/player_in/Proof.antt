@@ -11,10 +11,14 @@ use Rattle.start_read.proofs.seat.player_in.Statement.{statement}
 use Rattle.start_read.proofs.seat.player_in.Tie as tie
 
 text-if-requires : tie.Need-text-if-requires
-text-if-requires c κs = (omega arith, λ on. omega (arith, c .before .before .before .before .before .before .before .before .before .before .before .before .before .before .before .before .pre, long-enough (c .before .before .before .before .before .before .before .before .before .before .before .before .before .before .before .before .args .v) 7 on))
+text-if-requires c κs =
+    let c16 = c .before .before .before .before .before .before .before .before .before .before .before .before .before .before .before .before in
+    (omega arith, λ on. omega (arith, c16 .pre, long-enough (c16 .args .v) 7 on))
 
 netplay-in-requires : tie.Need-netplay-in-requires
-netplay-in-requires c κs = (c .before .before .before .before .before .before .before .before .before .before .before .before .before .before .before .before .before .pre .0, c .before .before .before .before .before .before .before .before .before .before .before .before .before .before .before .before .before .pre .2)
+netplay-in-requires c κs =
+    let c17 = c .before .before .before .before .before .before .before .before .before .before .before .before .before .before .before .before .before in
+    (c17 .pre .0, c17 .pre .2)
 
 returns : tie.Need-returns
 returns c =

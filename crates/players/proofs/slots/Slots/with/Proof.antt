@@ -3,8 +3,6 @@ use Rattle.game.specs.Frames.{slot}
 use Rattle.players.proofs.SlotLaws.{grown-one}
 use Rattle.players.proofs.slots.Slots.with.Statement.{statement}
 use Rattle.players.proofs.slots.Slots.with.Tie as tie
-use Rattle.players.proofs.slots.Slots.with.Reads as reads
-use Rattle.players.proofs.slots.Slots.with.Lts as lts
 
 -- src/slots.rt:95:9
 element-write-self : tie.Need-element-write-self

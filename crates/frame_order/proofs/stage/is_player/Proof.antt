@@ -1,11 +1,9 @@
--- `frame_order::place::is_player` meets its contract.
+-- `frame_order::stage::is_player` meets its contract.
 -- Assumes nothing.
 use native.Mathlib.Omega.{arith}
 use Rattle.frame_order.proofs.Steps.{player-is, player-not}
-use Rattle.frame_order.proofs.place.is_player.Statement.{statement}
-use Rattle.frame_order.proofs.place.is_player.Tie as tie
-use Rattle.frame_order.proofs.place.is_player.Reads as reads
-use Rattle.frame_order.proofs.place.is_player.Lts as lts
+use Rattle.frame_order.proofs.stage.is_player.Statement.{statement}
+use Rattle.frame_order.proofs.stage.is_player.Tie as tie
 
 returns : tie.Need-returns
 returns c = player-is (c .before .before .before .args .w) (omega arith)

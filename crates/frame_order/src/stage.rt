@@ -6,7 +6,7 @@ use format::version::Version;
 use layout::columns::Family;
 
 // Where a frame stands: the rank of its last event, its id, where its first Pre stands whose Post is to come, and how many those are.
-pub struct Place {
+pub struct Stage {
     pub rank: u8,
     pub id: u32,
     pub pre: usize,
@@ -38,7 +38,7 @@ pub fn is_player(w: Word) -> bool
 }
 
 // Whether the event is of the frame, and no later event of it came.
-pub fn is_inside(m: Place, rank: u8, w: Word) -> bool
+pub fn is_inside(m: Stage, rank: u8, w: Word) -> bool
     ensures { λ r. ⌜ r ≡ inside m rank w ⌝ }
 {
     if m.rank <= rank {
@@ -48,7 +48,7 @@ pub fn is_inside(m: Place, rank: u8, w: Word) -> bool
 }
 
 // Whether a frame may end here.
-pub fn is_closed(v: Version, m: Place) -> bool
+pub fn is_closed(v: Version, m: Stage) -> bool
     ensures { λ r. ⌜ r ≡ closedAt v m ⌝ }
 {
     if m.due != 0 {

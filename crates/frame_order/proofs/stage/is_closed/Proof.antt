@@ -1,13 +1,10 @@
--- `frame_order::place::is_closed` meets its contract.
+-- `frame_order::stage::is_closed` meets its contract.
 -- Assumes nothing.
 use native.Mathlib.Omega.{arith}
 use Rattle.frame_order.proofs.Steps.{closed-due, closed-end, closed-lacks}
 use borrow.Author.Needs.{needs}
-use Rattle.frame_order.proofs.place.is_closed.Statement.{statement}
-use Rattle.frame_order.proofs.place.is_closed.Tie as tie
-use Rattle.frame_order.proofs.place.is_closed.Reads as reads
-use Rattle.frame_order.proofs.place.is_closed.Lts as lts
-use Rattle.layout.proofs.columns.Family.exists.Reads as exists-reads
+use Rattle.frame_order.proofs.stage.is_closed.Statement.{statement}
+use Rattle.frame_order.proofs.stage.is_closed.Tie as tie
 
 returns : tie.Need-returns
 returns c = let a = c .before .before .args in closed-due (a .v) (a .m) (λ e. omega arith)

@@ -1,11 +1,9 @@
--- `frame_order::place::is_inside` meets its contract.
+-- `frame_order::stage::is_inside` meets its contract.
 -- Assumes nothing.
 use native.Mathlib.Omega.{arith}
 use Rattle.frame_order.proofs.Steps.{inside-is, inside-not}
-use Rattle.frame_order.proofs.place.is_inside.Statement.{statement}
-use Rattle.frame_order.proofs.place.is_inside.Tie as tie
-use Rattle.frame_order.proofs.place.is_inside.Reads as reads
-use Rattle.frame_order.proofs.place.is_inside.Lts as lts
+use Rattle.frame_order.proofs.stage.is_inside.Statement.{statement}
+use Rattle.frame_order.proofs.stage.is_inside.Tie as tie
 
 returns : tie.Need-returns
 returns c = let a = c .before .before .before .before .args in inside-is (a .m) (a .rank) (a .w) (omega arith)
