@@ -1,5 +1,6 @@
 // How many bytes an event has, by its code.
 ghost use mathlib.Core.Path.{_≡_};
+ghost use Prim.Native.Nat.{_<_};
 ghost use Rattle.frame_fill.specs.Inner.{spanBy};
 
 pub struct Spans {
@@ -13,7 +14,9 @@ pub struct Spans {
     pub stadium: usize,
 }
 
-pub fn span_of(z: Spans, code: u8) -> usize
+// A player's event's.
+pub fn player_span(z: Spans, code: u8) -> usize
+    requires { ⌜ code < 0x3A ⌝ }
     ensures { λ r. ⌜ r ≡ spanBy z code ⌝ }
 {
     if code == 0x37 {
@@ -21,6 +24,16 @@ pub fn span_of(z: Spans, code: u8) -> usize
     }
     if code == 0x38 {
         return z.post;
+    }
+    0
+}
+
+// Players' events come first: most events are.
+pub fn span_of(z: Spans, code: u8) -> usize
+    ensures { λ r. ⌜ r ≡ spanBy z code ⌝ }
+{
+    if code < 0x3A {
+        return player_span(z, code);
     }
     if code == 0x3A {
         return z.start;

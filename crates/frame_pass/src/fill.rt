@@ -13,7 +13,7 @@ use frame_eights::fill::fill_players;
 use frame_fill::numbers::numbers_of;
 use frame_fill::spans::Spans;
 use frame_fill::zeros::clear_players;
-use frame_rows::fill::fill_rows;
+use frame_lists::fill::fill_rows;
 use game::frames::Frames;
 use layout::columns::Family;
 use layout::listing::size;

@@ -1,4 +1,4 @@
--- The laws of the loop over all events, and of the columns of a version.
+-- The laws of the loop over all events.
 -- Assumes nothing.
 use mathlib.Core.Path.{_≡_, refl, sym, ap, subst, _∙_}
 use mathlib.Core.Bool.{Bool, true, cond, _&&_}
@@ -6,20 +6,16 @@ use mathlib.Core.List.{List}
 use Prim.Native.Nat.{ℕ, _+_, _*_, _≤_, _<_}
 use native.Mathlib.Omega.{arith}
 use lib.Dec.{ltb}
-use lib.ListN.{length, getD, take}
+use lib.ListN.{length, getD}
 use Rattle.format.specs.File.{Ev}
-use Rattle.layout.specs.Columns.{hasFamily}
-use Rattle.layout.specs.Inner.{Widths}
-use Rattle.layout.specs.declared.columns.Family.the-variants.{FrameStart, Item, FrameEnd, FodPlatform, DreamlandWhispy, StadiumTransformation}
-use Rattle.layout.specs.declared.listing.Listing.{Listing}
-use Rattle.game.specs.declared.frames.Frames.{Frames}
-use Rattle.frame_fill.specs.Inner.{toldAt, spanBy, offsetMarked, none, Roomy, Plan, planOf, spansOf}
-use Rattle.frame_fill.specs.Parts.{SpelledBy, SomeBy, WholeBy, fold, LeftBy, Rows, rows, RowPlan, RowSpans, RowRooms, Rowing, rowing, goRows, rowsDone, rowsRun, rowPlan, rowPlanOf}
+use Rattle.frame_fill.specs.Inner.{toldAt, spanBy, offsetMarked, none, Roomy}
+use Rattle.frame_fill.specs.Parts.{SpelledBy, SomeBy, WholeBy, fold, LeftBy, Rows, rows, RowPlan, RowSpans, RowRooms, Rowing, rowing, goRows, rowsDone, rowsRun}
 use Rattle.frame_fill.specs.declared.seen.Seen.{Seen}
 use Rattle.frame_fill.specs.declared.spans.Spans.{Spans}
 use Rattle.frame_fill.proofs.Parts.{some-whole, some-next, left-next, left-done, rows-agrees}
 use Rattle.frame_leap.specs.Inner.{idsPut, offsetsPut, rowsPut, seenThen, Leaps}
 use Rattle.frame_leap.proofs.Leaps.{then, frames-on}
+use Rattle.frame_turn.specs.Inner.{Nothing}
 
 -- ---- the loop
 
@@ -95,13 +91,24 @@ module _ (z : Spans) (q : RowPlan) (file : List ℕ) (first stop : ℕ) (w m : R
     pub passing-whole : WholeBy z file at
     passing-whole = some-whole z file at stop (h .some) t
 
+    pub passing-next : (span : ℕ) → span ≡ spanBy z (getD file at 0) → SomeBy z file (at + span) stop
+    passing-next span e = rw e (some-next z file at stop (h .some) t)
+
     pub passing-on : RowSpans z q → (span : ℕ) → span ≡ spanBy z (getD file at 0) → (s′ : Seen) (m′ : Rows) → Lengths m m′ → rowing s′ m′ ≡ goRows q (rowing s m) (toldAt file at)
         → Passing z q file first stop w m′ s′ (at + span)
     passing-on spans span e s′ m′ k g = record {
       lengths = lengths-on w m m′ (h .lengths) k;
-      some = rw e (some-next z file at stop (h .some) t);
+      some = passing-next span e;
       left = λ es x. rw (e, g) (left-next z file at stop (goRows q) (rows-agrees z q spans) (rowing s m) (fold (goRows q) es (rowing none w)) (h .left es x) t);
     }
+
+  -- and over events that bring nothing
+  pub passing-quiet : RowSpans z q → {e : ℕ} → Nothing z (q .hasStart) (s .opened) file at stop e → Passing z q file first stop w m s e
+  passing-quiet spans n = record {
+    lengths = h .lengths;
+    some = n .some;
+    left = λ es x. n .leads q spans refl s refl m (fold (goRows q) es (rowing none w)) (h .left es x);
+  }
 
   pub passing-done : RowSpans z q → stop ≤ at → (m′ : Rows) → m′ ≡ rowsDone q (rowing s m) → (es : List Ev) → SpelledBy z file first stop es → m′ ≡ rowsRun q es w
   passing-done spans t m′ e es x = e ∙ ap (rowsDone q) (left-done z file at stop (goRows q) (rows-agrees z q spans) (rowing s m) (fold (goRows q) es (rowing none w)) (h .left es x) t)
@@ -168,45 +175,3 @@ module _ (z : Spans) (q : RowPlan) (file : List ℕ) (first stop : ℕ) (w m : R
         some = record { events = some .events; spelled = some .spelled };
         left = λ es y. subst (λ (v : Rowing). LeftBy (goRows q) z file (at + 7 * step + step) stop v (fold (goRows q) es (rowing none w))) same (go (fold (goRows q) es (rowing none w)) (h .left es y));
       }
-
--- ---- the columns of a version
-
-pub row-plan-is : (f : Frames) (start end item fod whispy stadium : Listing) (x y w : Bool)
-    → Widths FrameStart (f .version) (start .count) (start .bytes) (start .widths)
-    × Widths FrameEnd (f .version) (end .count) (end .bytes) (end .widths)
-    × Widths Item (f .version) (item .count) (item .bytes) (item .widths)
-    × Widths FodPlatform (f .version) (fod .count) (fod .bytes) (fod .widths)
-    × Widths DreamlandWhispy (f .version) (whispy .count) (whispy .bytes) (whispy .widths)
-    × Widths StadiumTransformation (f .version) (stadium .count) (stadium .bytes) (stadium .widths)
-    → x ≡ hasFamily (f .version) FrameStart → y ≡ hasFamily (f .version) Item → w ≡ hasFamily (f .version) FodPlatform
-    → rowPlan (take (start .count) (start .widths)) (take (end .count) (end .widths)) (take (item .count) (item .widths)) (take (fod .count) (fod .widths))
-    (take (whispy .count) (whispy .widths)) (take (stadium .count) (stadium .widths)) x y w (f .counts)
-    ≡ rowPlanOf (planOf f)
-row-plan-is f start end item fod whispy stadium x y w l a b c = λ i. record {
-  start = l .0 .each i;
-  end = l .1 .each i;
-  item = l .2 .each i;
-  fod = l .3 .each i;
-  whispy = l .4 .each i;
-  stadium = l .5 .each i;
-  hasStart = a i;
-  hasItem = b i;
-  hasStage = c i;
-  counts = f .counts;
-}
-
-pub row-spans-are : (p : Plan) (z : Spans) (q : RowPlan) → z ≡ spansOf p → q ≡ rowPlanOf p → RowSpans z q
-row-spans-are p z q e d = subst (RowSpans z) (sym d) (record {
-  start = ap (λ (x : Spans). x .start) e;
-  end = ap (λ (x : Spans). x .end) e;
-  item = ap (λ (x : Spans). x .item) e;
-  fod = ap (λ (x : Spans). x .fod) e;
-  whispy = ap (λ (x : Spans). x .whispy) e;
-  stadium = ap (λ (x : Spans). x .stadium) e;
-})
-
-pub row-rooms-as : (q p : RowPlan) (w : Rows) → q ≡ p → RowRooms p w → RowRooms q w
-row-rooms-as q p w e = subst (λ (x : RowPlan). RowRooms x w) (sym e)
-
-pub rows-run-as : (q p : RowPlan) (es : List Ev) (w : Rows) → q ≡ p → rowsRun q es w ≡ rowsRun p es w
-rows-run-as q p es w e = ap (λ (x : RowPlan). rowsRun x es w) e

@@ -14,6 +14,7 @@ use frame_fill::spans::Spans;
 use frame_fill::spans::span_of;
 use frame_leap::leap::leap;
 use frame_leap::leap::leaps_at;
+use frame_turn::quiet::after_quiet;
 use frame_turn::turn::turn;
 use game::frames::Counts;
 
@@ -140,7 +141,7 @@ pub fn pass(
                 whispy_offsets,
                 stadium_offsets,
             );
-            at = next;
+            at = after_quiet(file, z, has_start, s.opened, next, stop);
         }
     }
     mark_offsets(

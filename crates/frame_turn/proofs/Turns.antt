@@ -1,24 +1,54 @@
 -- The laws of one event: which events bring these stores nothing, and what the others bring.
 -- Assumes nothing.
-use mathlib.Core.Path.{_≡_, sym, ap, ap₂, _∙_}
+use mathlib.Core.Path.{_≡_, refl, sym, ap, ap₂, _∙_}
 use mathlib.Core.Bool.{Bool, true, false, _&&_}
-use Prim.Native.Nat.{ℕ, _<_}
+use mathlib.Core.List.{List}
+use Prim.Native.Nat.{ℕ, _+_, _<_}
 use native.Mathlib.Omega.{arith}
 use borrow.Author.Tests.{ne-eqb}
 use lib.Dec.{eqb}
-use Rattle.frame_fill.specs.Inner.{Told, opens, openAfter, nextAfter, marked, offsetMarked, rowPut}
-use Rattle.frame_fill.specs.Parts.{Rows, RowPlan, firstBy, rowing, goRows}
+use lib.ListN.{getD}
+use Rattle.frame_fill.specs.Inner.{Told, toldAt, spanBy, opens, openAfter, nextAfter, marked, offsetMarked, rowPut}
+use Rattle.frame_fill.specs.Parts.{SomeBy, Rows, RowPlan, firstBy, rowing, goRows}
 use Rattle.frame_fill.specs.declared.seen.Open.{Open}
 use Rattle.frame_fill.specs.declared.seen.Next.{Next}
 use Rattle.frame_fill.specs.declared.seen.Seen.{Seen}
+use Rattle.frame_fill.specs.declared.spans.Spans.{Spans}
+use Rattle.frame_fill.proofs.Parts.{some-next, left-next, rows-agrees}
+use Rattle.frame_fill.proofs.Quiet.{player-quiet}
+use Rattle.frame_turn.specs.Inner.{Nothing}
 
 -- ---- an event of a player
 
--- with a FrameStart in the version nothing else begins a frame
+-- with a FrameStart in the version nothing else begins a frame, and a Post never does
 module _ (start : Bool) (frames : ℕ) (o : Open) (code id : ℕ) where
+  pub stay-post : code ≡ 0x38 → opens start frames o code id ≡ false
+  unfolding opens
+  stay-post e = go start refl
+    where
+      go : (b : Bool) → start ≡ b → opens start frames o code id ≡ false
+      go true s = rw (s, e)
+      go false s = rw (s, e)
+
   pub stay-start : start ≡ true → code < 0x3A → opens start frames o code id ≡ false
   unfolding opens
   stay-start e h = rw (e, ne-eqb code 0x3A (λ z. absurd (omega (arith, h, z))))
+
+-- ---- events that bring nothing
+
+module _ (z : Spans) (start : Bool) (o : Open) (file : List ℕ) (at stop : ℕ) where
+  pub nothing-first : SomeBy z file at stop → Nothing z start o file at stop at
+  nothing-first h = record { forward = omega arith; some = h; leads = λ q r e s f w all l. l }
+
+  pub nothing-more : {e span : ℕ} → Nothing z start o file at stop e → e < stop → span ≡ spanBy z (getD file e 0)
+      → (getD file e 0 < 0x3A) × ((frames : ℕ) → firstBy start frames o (toldAt file e) ≡ false) → Nothing z start o file at stop (e + span)
+  nothing-more {e} {span} h t n (c, f) = record {
+    forward = omega (arith, h .forward);
+    some = rw n (some-next z file e stop (h .some) t);
+    leads = λ q r has s opened w all l.
+        let quiet : firstBy (q .hasStart) (q .counts .frames) (s .opened) (toldAt file e) ≡ false = rw (has, opened) (f (q .counts .frames)) in
+        rw (n, player-quiet q s w (toldAt file e) (c, quiet)) (left-next z file e stop (goRows q) (rows-agrees z q r) (rowing s w) all (h .leads q r has s opened w all l) t);
+  }
 
 -- ---- a turn's parts make a step
 

@@ -1,37 +1,12 @@
 // One event of a frame into the stores that are no player's.
 ghost use mathlib.Core.Path.{_≡_};
-ghost use mathlib.Core.Bool.{true, false};
-ghost use Prim.Native.Nat.{_+_, _≤_, _<_};
-ghost use lib.ListN.{length, getD};
 ghost use Rattle.frame_fill.specs.Inner.{toldAt};
-ghost use Rattle.frame_fill.specs.Parts.{WholeBy, firstBy, rows, rowPlan, RowSpans, RowRooms, rowing, goRows};
+ghost use Rattle.frame_fill.specs.Parts.{WholeBy, rows, rowPlan, RowSpans, RowRooms, rowing, goRows};
 use frame_fill::marks::begin;
 use frame_fill::rows::put_rows;
-use frame_fill::seen::Open;
 use frame_fill::seen::Seen;
 use frame_fill::spans::Spans;
 use game::frames::Counts;
-
-// Whether the event at a place is a player's and begins no frame: it brings these stores nothing.
-fn is_quiet(file: &[u8], at: usize, start: bool, frames: usize, o: Open) -> bool
-    requires { ⌜ at + 5 ≤ length (now file) ⌝ }
-    ensures { λ r. ⌜ (r ≡ true → (getD (now (file .entry)) at 0 < 0x3A) × (firstBy start frames o (toldAt (now (file .entry)) at) ≡ false)) ⌝ }
-{
-    let code = file[at];
-    if 0x3A <= code {
-        return false;
-    }
-    if start {
-        return true;
-    }
-    if code != 0x37 {
-        return true;
-    }
-    if o.frames == 0 {
-        return false;
-    }
-    wire::get_be(file, at + 1, 4) == o.id
-}
 
 // One event into the stores.
 pub fn turn(
@@ -71,9 +46,6 @@ pub fn turn(
         (toldAt (now (file .entry)) at) ⌝ }
 {
     let code = file[at];
-    if is_quiet(file, at, has_start, c.frames, s.opened) {
-        return s;
-    }
     let id = wire::get_be(file, at + 1, 4);
     let o = begin(
         has_start,

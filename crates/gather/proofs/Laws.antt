@@ -3,17 +3,17 @@
 use mathlib.Core.Path.{_≡_, refl, sym, ap, ap₂, _∙_}
 use mathlib.Core.List.{List, [], _∷_}
 use Prim.Native.Nat.{ℕ, zero, suc, _+_, _-_, _%_, _^_, _≤_, _<_}
-use native.Mathlib.Nat.{add-assoc}
+use native.Mathlib.Nat.{add-assoc, zero-add}
 use native.Mathlib.Numerals.{add-one}
 use native.Mathlib.Omega.{arith}
 use lib.ListN.{length, getD, set, take, drop, length-set, drop-of-length-le}
 use lib.Seq.{drop-cons, drop-drop, set-comm}
-use Rattle.wire.specs.Wire.{number, part}
+use Rattle.wire.specs.Wire.{more, number, part}
 use Rattle.record.specs.Record.{readBack}
 use Rattle.record.specs.Inner.{InStore}
 use Rattle.record.proofs.Laws.{length-read, read-store}
 use Rattle.record.proofs.Numbers.{low-is}
-use Rattle.gather.specs.Inner.{rowsAt}
+use Rattle.gather.specs.Inner.{rowsAt, Reach, Eight}
 
 module _ (file places : List ℕ) (i : ℕ) where
   pub length-rows : (ws : List ℕ) (off n : ℕ) (cells : List ℕ) (stride row : ℕ) → length (rowsAt ws file places i off n cells stride row) ≡ length cells
@@ -62,6 +62,16 @@ module _ (file places : List ℕ) (i : ℕ) where
   unfolding rowsAt readBack part
   down-step w off t cells now first v e q = rw (add-one t) (ap₂ (λ (l : List ℕ) (x : ℕ). set l (first + t) x) e q)
 
+  pub column-long : (w off t first : ℕ) (cells now : List ℕ) → now ≡ rowsAt (w ∷ []) file places i off t cells 0 first → length now ≡ length cells
+  column-long w off t first cells now e = ap length e ∙ length-rows (w ∷ []) off t cells 0 first
+
+  pub down-done : (w off t first : ℕ) (cells now : List ℕ) → now ≡ rowsAt (w ∷ []) file places i off t cells 0 first → t ≤ 8 → 8 ≤ t → now ≡ rowsAt (w ∷ []) file places i off 8 cells 0 first
+  down-done w off t first cells now e few all = let q : t ≡ 8 = omega arith in e ∙ ap (λ (n : ℕ). rowsAt (w ∷ []) file places i off n cells 0 first) q
+
+  -- a column by its width
+  pub column-as : (w v off : ℕ) (cells now : List ℕ) (first : ℕ) → w ≡ v → now ≡ rowsAt (v ∷ []) file places i off 8 cells 0 first → now ≡ rowsAt (w ∷ []) file places i off 8 cells 0 first
+  column-as w v off cells now first e q = q ∙ ap (λ (x : ℕ). rowsAt (x ∷ []) file places i off 8 cells 0 first) (sym e)
+
   pub down-start : (w off : ℕ) (cells : List ℕ) (first : ℕ) → cells ≡ rowsAt (w ∷ []) file places i off 0 cells 0 first
   unfolding rowsAt
   down-start w off cells first = refl
@@ -94,3 +104,21 @@ low-at file place off w base bytes narrow room inside e =
     let a : place + base ≡ place + (off + w) - 4 = omega arith in
     let b : place + (off + w) - w ≡ place + off = omega arith in
     ap (λ (x : ℕ). number (part file x 4) % 256 ^ w) a ∙ low-is file (place + (off + w)) w bytes narrow (omega arith) inside ∙ ap (λ (x : ℕ). number (part file x w)) b
+
+-- a cell of one byte is the byte
+pub one-at : (file : List ℕ) (at : ℕ) → at < length file → getD file at 0 ≡ number (part file at 1)
+unfolding more part
+one-at file at h = rw (drop-cons file at 0 h) (omega arith)
+
+-- ---- eight places by themselves
+
+module _ {places : List ℕ} {i : ℕ} {at : List ℕ} (e : Eight places i at) where
+  pub eight-reach : (file : List ℕ) (n : ℕ) → Reach file places i n → Reach file at 0 n
+  eight-reach file n h t l = rw (zero-add t, e .each t l) (h t l)
+
+  pub eight-rows : (ws file : List ℕ) (off n : ℕ) (cells : List ℕ) (stride row : ℕ) → n ≤ 8 → rowsAt ws file at 0 off n cells stride row ≡ rowsAt ws file places i off n cells stride row
+  unfolding rowsAt
+  eight-rows ws file off zero cells stride row h = refl
+  eight-rows ws file off (suc n) cells stride row h =
+      let here : getD at (0 + n) 0 ≡ getD places (i + n) 0 = ap (λ (k : ℕ). getD at k 0) (zero-add n) ∙ e .each n (omega arith) in
+      ap₂ (λ (p : ℕ) (l : List ℕ). readBack ws (drop (p + off) file) l stride (row + n)) here (eight-rows ws file off n cells stride row (omega arith))

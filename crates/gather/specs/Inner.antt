@@ -2,6 +2,7 @@
 -- Assumes nothing.
 use Prim.Native.Nat.{ℕ, zero, suc, _+_, _≤_, _<_}
 use mathlib.Core.List.{List}
+use mathlib.Core.Path.{_≡_}
 use lib.ListN.{length, getD, drop}
 use Rattle.record.specs.Record.{readBack}
 
@@ -14,3 +15,8 @@ rowsAt ws file places i off (suc n) cells stride row =
 -- n bytes stand at each of the eight places
 abbrev pub Reach : List ℕ → List ℕ → ℕ → ℕ → Type 0
 Reach file places i n = (t : ℕ) → t < 8 → getD places (i + t) 0 + n ≤ length file
+
+-- the eight places that the table has from i on, by themselves
+pub record Eight (places : List ℕ) (i : ℕ) (at : List ℕ) : Type 0 where
+  pub long : length at ≡ 8
+  pub each : (t : ℕ) → t < 8 → getD at t 0 ≡ getD places (i + t) 0

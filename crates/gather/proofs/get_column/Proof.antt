@@ -1,100 +1,53 @@
--- `gather::get_column` meets its contract: 1 << 8 w is 256 ^ w, and the remainder is the last w bytes' number. The invariant: the cells so far.
+-- `gather::get_column` meets its contract: each width by itself.
 -- Assumes nothing.
-use mathlib.Core.Path.{_≡_, refl, ap, _∙_}
-use mathlib.Core.List.{List, [], _∷_}
-use Prim.Native.Nat.{ℕ, _+_, _-_, _%_, _^_, _*_, _≤_, _<_}
-use native.Mathlib.Nat.{one-mul, one-le-pow, mod-le}
 use native.Mathlib.Omega.{arith}
-use lib.Dec.{lit<}
-use lib.ListN.{length, getD}
-use lib.Pow.{shl-exact}
-use Rattle.wire.proofs.Laws.{pow-8}
-use Rattle.gather.specs.Inner.{rowsAt}
-use Rattle.gather.proofs.Laws.{length-rows, down-start, down-step, low-at}
+use Rattle.gather.proofs.Laws.{column-as}
+use borrow.Author.Needs.{needs}
 use Rattle.gather.proofs.get_column.Statement.{statement}
 use Rattle.gather.proofs.get_column.Tie as tie
+use Rattle.gather.proofs.get_column.Reads as reads
+use Rattle.gather.proofs.get_column.Lts as lts
+use Rattle.gather.proofs.get_fours.Reads as get-fours-reads
+use Rattle.gather.proofs.get_narrow.Reads as get-narrow-reads
+use Rattle.gather.proofs.get_ones.Reads as get-ones-reads
 
-abbrev Inv-loop : tie.InvT-loop
-Inv-loop file places i off width cells₀ first over base t₀ cells t =
-    (over ≡ 256 ^ width) × (base ≡ off + width - 4) × (t ≤ 8) × (cells ≡ rowsAt (width ∷ []) file places i off t cells₀ 0 first)
+get-fours-requires : tie.Need-get-fours-requires
+get-fours-requires c κs = let h = c .before .before .before .before .before .pre in (h .2, h .3, λ t l. omega (arith, h .4 t l, c .before .if1 .taken))
 
-long : (file places : List ℕ) (i off width t first : ℕ) (cells₀ cells : List ℕ) → cells ≡ rowsAt (width ∷ []) file places i off t cells₀ 0 first → length cells ≡ length cells₀
-long file places i off width t first cells₀ cells e = ap length e ∙ length-rows file places i (width ∷ []) off t cells₀ 0 first
+same-length : tie.Need-same-length
+same-length c = search needs
 
-abbrev μ-loop : tie.MeasureT-loop
-μ-loop file places i off width cells₀ first over base t₀ cells t = 8 - t
+returns : tie.Need-returns
+returns c = column-as _ _ _ _ _ _ _ _ _ (c .before .before .before .before .if1 .taken) (c .before .before .get-fours .ensures)
 
-shifted : (w : ℕ) → w ≤ 4 → 1 * 2 ^ (8 * w) % 2 ^ 64 ≡ 256 ^ w
-shifted w h = shl-exact 1 (8 * w) 64 (lit< tt) (omega arith) ∙ one-mul (2 ^ (8 * w)) ∙ pow-8 w
+get-ones-requires : tie.Need-get-ones-requires
+get-ones-requires c κs = let h = c .before .before .before .before .before .before .pre in (h .2, h .3, λ t l. omega (arith, h .4 t l, c .before .if2 .taken))
 
-loop-holds : tie.Need-loop-holds Inv-loop μ-loop
-loop-holds c = let s = c .before .before .before in (shifted (s .args .width) (s .pre .0), refl, omega arith, down-start _ _ _ _ _ _ _)
+same-length-2 : tie.Need-same-length-2
+same-length-2 c = search needs
 
--- a turn's place, and where its cell ends
-reach : (c : tie.In-loop Inv-loop μ-loop)
-    → let s = c .before .before .before .before .before in getD (s .args .places .now) (s .args .i + c .before .loop .t) 0 + (s .args .off + s .args .width) ≤ length (s .args .file .now)
-reach c = c .before .before .before .before .before .pre .4 (c .before .loop .t) (c .loop-test .taken)
+returns-2 : tie.Need-returns-2
+returns-2 c = column-as _ _ _ _ _ _ _ _ _ (c .before .before .before .before .if2 .taken) (c .before .before .get-ones .ensures)
 
-get-four-requires : tie.Need-get-four-requires Inv-loop μ-loop
-get-four-requires c κs = let s = c .before .before .before .before .before .before in omega (arith, reach (c .before), c .before .before .loop .inv .1, s .pre .1)
+get-narrow-requires : tie.Need-get-narrow-requires
+get-narrow-requires c κs = search needs
 
-rem-cells : tie.Need-rem-cells Inv-loop μ-loop
-rem-cells c = rw (c .before .before .before .loop .inv .0) (one-le-pow (c .before .before .before .before .before .before .before .args .width) 256 (lit< tt))
+same-length-3 : tie.Need-same-length-3
+same-length-3 c = search needs
 
-cast-cells-2 : tie.Need-cast-cells-2 Inv-loop μ-loop
-cast-cells-2 c = rw (c .before .before .before .loop .inv .0) (omega (arith, mod-le (c .get-four .result) (256 ^ c .before .before .before .before .before .before .before .args .width), c .get-four .ok))
-
-inside : (c : tie.After-get-four Inv-loop μ-loop) → let l = c .before .before .before .loop in c .before .before .before .before .before .before .before .args .first + l .t < length (l .cells)
-inside c = omega (arith, c .before .before .before .before .before .before .before .pre .2, c .before .before .loop-test .taken, long _ _ _ _ _ _ _ _ _ (c .before .before .before .loop .inv .3))
-
-loop-again : tie.Need-loop-again Inv-loop μ-loop
-loop-again c =
-    let s = c .before .before .before .before .before .before .before in
-    let a = s .args in
-    let l = c .before .before .before .loop in
-    let (over, base, few, is) = l .inv in (
-      over,
-      base,
-      omega (arith, c .before .before .loop-test .taken),
-      down-step _ _ _ _ _ (l .t) _ _ _ _ is
-          (rw (over, c .get-four .ensures)
-          (low-at (a .file .now) (getD (a .places .now) (a .i + l .t) 0) (a .off) (a .width) _ (λ i. omega (arith, c .before .before .before .before .before .before .shared-slice-known .given i)) (s .pre .0) (s .pre .1) (reach (c .before .before)) base)),
-    )
-
-same-length : tie.Need-same-length Inv-loop μ-loop
-same-length c = long _ _ _ _ _ _ _ _ _ (c .before .loop .inv .3)
-
-returns : tie.Need-returns Inv-loop μ-loop
-returns c =
-    let l = c .before .loop in
-    let a = c .before .before .before .before .before .args in
-    let e : l .t ≡ 8 = omega (arith, c .loop-test .left, l .inv .2) in
-    l .inv .3 ∙ ap (λ (t : ℕ). rowsAt (a .width ∷ []) (a .file .now) (a .places .now) (a .i) (a .off) t (a .cells .now) 0 (a .first)) e
+returns-3 : tie.Need-returns-3
+returns-3 c = search needs
 
 pub get-column-spec : {M : Type 1} → statement M
 get-column-spec =
     tie.close
     (tie.spec
-    Inv-loop
-    μ-loop
-    (λ c. omega (arith, c .before .before .before .pre .0))
-    (λ c. omega (arith, c .before .before .before .pre .0))
-    (λ c. omega (arith, c .before .before .before .pre .4 0 (omega arith), c .before .before .before .good))
-    (λ c. omega (arith, c .before .before .before .pre .1))
-    loop-holds
-    (λ c. omega (arith, c .before .before .before .before .before .pre .3, c .loop-test .taken, c .before .before .before .before .before .good))
-    (λ c. omega (arith, c .before .before .before .before .before .pre .3, c .loop-test .taken, c .before .before .before .before .before .good))
-    (λ c. omega (arith, c .before .before .before .before .before .before .pre .3, c .before .loop-test .taken))
-    (λ c. omega (arith, reach (c .before), c .before .before .loop .inv .1, c .before .before .before .before .before .before .pre .1, c .before .before .before .before .before .before .good))
-    get-four-requires
-    (λ c. omega (arith, c .get-four .ok))
-    rem-cells
-    cast-cells-2
-    (λ c. omega (arith, inside c, c .before .before .before .before .before .before .before .good))
-    (λ c. omega (arith, inside c, c .before .before .before .before .before .before .before .good))
-    inside
-    (λ c. omega arith)
-    (λ c. omega arith)
-    loop-again
+    get-fours-requires
     same-length
-    returns)
+    returns
+    get-ones-requires
+    same-length-2
+    returns-2
+    get-narrow-requires
+    same-length-3
+    returns-3)

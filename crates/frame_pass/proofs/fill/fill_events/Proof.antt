@@ -14,7 +14,7 @@ use Rattle.frame_eights.proofs.fill.fill_players.Reads as fill-players-reads
 use Rattle.frame_fill.proofs.numbers.numbers_of.Reads as numbers-of-reads
 use Rattle.frame_fill.proofs.zeros.clear_players.Reads as clear-players-reads
 use Rattle.frame_pass.proofs.fill.spans_of.Reads as spans-of-reads
-use Rattle.frame_rows.proofs.fill.fill_rows.Reads as fill-rows-reads
+use Rattle.frame_lists.proofs.fill.fill_rows.Reads as fill-rows-reads
 use Rattle.players.proofs.slots.slots_of.Reads as slots-of-reads
 
 slots-of-requires : tie.Need-slots-of-requires

@@ -5,7 +5,7 @@ use Prim.Native.Nat.{_-_, _≤_}
 use native.Mathlib.Omega.{arith}
 use Rattle.frame_fill.specs.Parts.{rows, rowPlan}
 use Rattle.frame_leap.proofs.Leaps.{leap-inside, leap-start, leap-end}
-use Rattle.frame_rows.proofs.Passing.{Lengths, Passing, passing-leap, passing-first, passing-rooms, passing-whole, passing-on, passing-done, offsets-done}
+use Rattle.frame_rows.proofs.Passing.{Lengths, Passing, passing-leap, passing-first, passing-rooms, passing-whole, passing-next, passing-on, passing-quiet, passing-done, offsets-done}
 use Rattle.frame_rows.proofs.pass.pass.Statement.{statement}
 use Rattle.frame_rows.proofs.pass.pass.Tie as tie
 use Rattle.frame_rows.proofs.pass.pass.Reads as reads
@@ -124,40 +124,43 @@ turn-requires c κs =
     let l = b17 .loop .inv .0 in
     (h .0, passing-whole _ _ _ _ _ _ _ _ _ l (b16 .loop-test .taken), passing-rooms _ _ _ _ _ _ _ _ _ l (h .2))
 
+after-quiet-requires : tie.Need-after-quiet-requires Inv-loop μ-loop
+after-quiet-requires c κs =
+    let b35 = c .before .before .before .before .before .before .before .before .before .before .before .before .before .before .before .before .before .before .before .before .before .before .before .before .before .before .before .before .before .before .before .before .before .before .before in
+    let b39 = b35 .before .before .before .before in
+    passing-next _ _ _ _ _ _ _ _ _ (b39 .before .loop .inv .0) (b39 .loop-test .taken) _ (b35 .span-of .ensures)
+
 loop-less-2 : tie.Need-loop-less-2 Inv-loop μ-loop
 loop-less-2 c =
-    let b30 = c .before .before .before .before .before .before .before .before .before .before .before .before .before .before .before .before .before .before .before .before .before .before .before .before .before .before .before .before .before .before in
-    let b35 = b30 .before .before .before .before .before in
-    let b39 = b35 .before .before .before .before in
-    let b40 = b39 .before in
-    let w = passing-whole _ _ _ _ _ _ _ _ _ (b40 .loop .inv .0) (b39 .loop-test .taken) in omega (arith, w .long, b35 .span-of .ensures, b39 .loop-test .taken)
+    let b36 = c .before .before .before .before .before .before .before .before .before .before .before .before .before .before .before .before .before .before .before .before .before .before .before .before .before .before .before .before .before .before .before .before .before .before .before .before in
+    let b40 = b36 .before .before .before .before in
+    let w = passing-whole _ _ _ _ _ _ _ _ _ (b40 .before .loop .inv .0) (b40 .loop-test .taken) in omega (arith, w .long, b36 .span-of .ensures, b40 .loop-test .taken, c .after-quiet .ensures .forward)
 
 loop-again-2 : tie.Need-loop-again-2 Inv-loop μ-loop
 loop-again-2 c =
-    let b22 = c .before .before .before .before .before .before .before .before .before .before .before .before .before .before .before .before .before .before .before .before .before .before in
-    let b34 = b22 .before .before .before .before .before .before .before .before .before .before .before .before in
-    let b35 = b34 .before in
-    let b39 = b35 .before .before .before .before in
-    let b40 = b39 .before in
-    let b60 = b40 .before .before .before .before .before .before .before .before .before .before .before .before .before .before .before .before .before .before .before .before in
-    let k = b22 .turn .kept .1 .1 .1 .1 .1 .1 .1 .1 .1 .1 .1 .1 .1 .1 in (
-      passing-on _ _ _ _ _ _ _ _ _ (b40 .loop .inv .0) (b39 .loop-test .taken) (b60 .pre .0) _ (b35 .span-of .ensures) _ _
-          (record {
-            ids = k .0;
-            starts = k .1 .0;
-            ends = k .1 .1 .0;
-            items = k .1 .1 .1 .0;
-            fods = k .1 .1 .1 .1 .0;
-            whispys = k .1 .1 .1 .1 .1 .0;
-            stadiums = k .1 .1 .1 .1 .1 .1 .0;
-            itemOffsets = k .1 .1 .1 .1 .1 .1 .1 .0;
-            fodOffsets = k .1 .1 .1 .1 .1 .1 .1 .1 .0;
-            whispyOffsets = k .1 .1 .1 .1 .1 .1 .1 .1 .1 .0;
-            stadiumOffsets = k .1 .1 .1 .1 .1 .1 .1 .1 .1 .1 .0;
-          })
-          (b22 .turn .ensures),
-      omega (arith, b34 .last-at .ensures),
-    )
+    let b23 = c .before .before .before .before .before .before .before .before .before .before .before .before .before .before .before .before .before .before .before .before .before .before .before in
+    let b35 = b23 .before .before .before .before .before .before .before .before .before .before .before .before in
+    let b36 = b35 .before in
+    let b40 = b36 .before .before .before .before in
+    let b41 = b40 .before in
+    let spans = b41 .before .before .before .before .before .before .before .before .before .before .before .before .before .before .before .before .before .before .before .before .pre .0 in
+    let k = b23 .turn .kept .1 .1 .1 .1 .1 .1 .1 .1 .1 .1 .1 .1 .1 .1 in
+    let on = passing-on _ _ _ _ _ _ _ _ _ (b41 .loop .inv .0) (b40 .loop-test .taken) spans _ (b36 .span-of .ensures) _ _
+    (record {
+      ids = k .0;
+      starts = k .1 .0;
+      ends = k .1 .1 .0;
+      items = k .1 .1 .1 .0;
+      fods = k .1 .1 .1 .1 .0;
+      whispys = k .1 .1 .1 .1 .1 .0;
+      stadiums = k .1 .1 .1 .1 .1 .1 .0;
+      itemOffsets = k .1 .1 .1 .1 .1 .1 .1 .0;
+      fodOffsets = k .1 .1 .1 .1 .1 .1 .1 .1 .0;
+      whispyOffsets = k .1 .1 .1 .1 .1 .1 .1 .1 .1 .0;
+      stadiumOffsets = k .1 .1 .1 .1 .1 .1 .1 .1 .1 .1 .0;
+    })
+    (b23 .turn .ensures) in
+    (passing-quiet _ _ _ _ _ _ _ _ _ on spans (c .after-quiet .ensures), omega (arith, b35 .last-at .ensures, c .after-quiet .ensures .forward))
 
 mark-offsets-requires : tie.Need-mark-offsets-requires Inv-loop μ-loop
 mark-offsets-requires c κs = tt
@@ -223,6 +226,7 @@ pass-spec =
     add-next
     last-at-requires
     turn-requires
+    after-quiet-requires
     loop-less-2
     loop-again-2
     mark-offsets-requires

@@ -2,7 +2,6 @@
 -- Assumes nothing.
 use native.Mathlib.Omega.{arith}
 use Rattle.frame_fill.proofs.Parts.{long-start, long-end, long-item, long-fod, long-whispy, long-stadium}
-use Rattle.frame_fill.proofs.Quiet.{player-quiet}
 use Rattle.frame_turn.proofs.Turns.{turn-made}
 use borrow.Author.Needs.{needs}
 use Rattle.frame_turn.proofs.turn.turn.Statement.{statement}
@@ -11,17 +10,10 @@ use Rattle.frame_turn.proofs.turn.turn.Reads as reads
 use Rattle.frame_turn.proofs.turn.turn.Lts as lts
 use Rattle.frame_fill.proofs.marks.begin.Reads as begin-reads
 use Rattle.frame_fill.proofs.rows.put_rows.Reads as put-rows-reads
-use Rattle.frame_turn.proofs.turn.is_quiet.Reads as is-quiet-reads
 use Rattle.wire.proofs.get_be.Reads as get-be-reads
 
 shared-slice-read-code : tie.Need-shared-slice-read-code
 shared-slice-read-code c = search needs
-
-is-quiet-requires : tie.Need-is-quiet-requires
-is-quiet-requires c κs = search needs
-
-returns : tie.Need-returns
-returns c = player-quiet _ _ _ _ (c .before .is-quiet .ensures (c .if1 .taken))
 
 add-get-be : tie.Need-add-get-be
 add-get-be c = search needs
@@ -35,16 +27,16 @@ begin-requires c κs = search needs
 add-put-rows : tie.Need-add-put-rows
 add-put-rows c =
     let b30 = c .before .before .before .before .before .before .before .before .before .before .before .before .before .before .before .before .before .before .before .before .before .before .before .before .before .before .before .before .before .before in
-    let b38 = b30 .before .before .before .before .before .before .before .before in
-    let h = b38 .pre .1 in omega (arith, h .long, h .inside, b38 .good)
+    let b36 = b30 .before .before .before .before .before .before in
+    let h = b36 .pre .1 in omega (arith, h .long, h .inside, b36 .good)
 
 put-rows-requires : tie.Need-put-rows-requires
 put-rows-requires c κs =
     let b30 = c .before .before .before .before .before .before .before .before .before .before .before .before .before .before .before .before .before .before .before .before .before .before .before .before .before .before .before .before .before .before in
-    let b44 = b30 .before .before .before .before .before .before .before .before .before .before .before .before .before .before in
-    let s = b44 .pre .0 in
-    let w = b44 .pre .1 in
-    let r = b44 .pre .2 in
+    let b42 = b30 .before .before .before .before .before .before .before .before .before .before .before .before in
+    let s = b42 .pre .0 in
+    let w = b42 .pre .1 in
+    let r = b42 .pre .2 in
     (omega arith, (long-start _ _ _ w _ s, r .starts), (long-end _ _ _ w _ s, r .ends), (long-item _ _ _ w _ s, r .items), (long-fod _ _ _ w _ s, r .fods), (long-whispy _ _ _ w _ s, r .whispys), (long-stadium _ _ _ w _ s, r .stadiums))
 
 same-length : tie.Need-same-length
@@ -80,8 +72,8 @@ same-length-10 c = search needs
 same-length-11 : tie.Need-same-length-11
 same-length-11 c = search needs
 
-returns-2 : tie.Need-returns-2
-returns-2 c =
+returns : tie.Need-returns
+returns c =
     let b12 = c .before .before .before .before .before .before .before .before .before .before .before .before in
     let b29 = b12 .before .before .before .before .before .before .before .before .before .before .before .before .before .before .before .before .before in
     let b35 = b29 .before .before .before .before .before .before in
@@ -92,8 +84,6 @@ turn-spec =
     tie.close
     (tie.spec
     shared-slice-read-code
-    is-quiet-requires
-    returns
     add-get-be
     get-be-requires
     begin-requires
@@ -110,4 +100,4 @@ turn-spec =
     same-length-9
     same-length-10
     same-length-11
-    returns-2)
+    returns)

@@ -1,17 +1,17 @@
--- `frame_rows::fill::fill_rows` meets its contract.
+-- `frame_lists::fill::fill_rows` meets its contract.
 -- Assumes nothing.
 use mathlib.Core.Path.{_∙_}
 use Rattle.frame_fill.proofs.Plans.{widths-cut}
 use Rattle.frame_fill.specs.Inner.{planOf}
 use Rattle.frame_fill.specs.Parts.{rows}
-use Rattle.frame_rows.proofs.Passing.{row-plan-is, row-spans-are, row-rooms-as, rows-run-as}
+use Rattle.frame_lists.proofs.Lists.{row-plan-is, row-spans-are, row-rooms-as, rows-run-as}
 use borrow.Author.Needs.{needs}
-use Rattle.frame_rows.proofs.fill.fill_rows.Statement.{statement}
-use Rattle.frame_rows.proofs.fill.fill_rows.Tie as tie
-use Rattle.frame_rows.proofs.fill.fill_rows.Reads as reads
-use Rattle.frame_rows.proofs.fill.fill_rows.Lts as lts
-use Rattle.frame_rows.proofs.fill.listed.Reads as listed-reads
+use Rattle.frame_lists.proofs.fill.fill_rows.Statement.{statement}
+use Rattle.frame_lists.proofs.fill.fill_rows.Tie as tie
+use Rattle.frame_lists.proofs.fill.fill_rows.Reads as reads
+use Rattle.frame_lists.proofs.fill.fill_rows.Lts as lts
+use Rattle.frame_lists.proofs.fill.listed.Reads as listed-reads
 use Rattle.frame_rows.proofs.pass.pass.Reads as pass-reads
 use Rattle.layout.proofs.columns.Family.exists.Reads as exists-reads
 
 listed-requires : tie.Need-listed-requires
