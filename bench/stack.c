@@ -138,8 +138,8 @@ static const struct {
 } CALLS[] = {
 	{ "slp_write", call_write, 8600 },
 	{ "slp_write_final", call_write_final, 13300 },
-	{ "slp_write_frames", call_write_frames, 5900 },
-	{ "slp_write_frame", call_write_frame, 5900 },
+	{ "slp_write_frames", call_write_frames, 6400 },
+	{ "slp_write_frame", call_write_frame, 6400 },
 	{ "slp_write_head", call_write_head, 5200 },
 	{ "slp_write_end", call_write_end, 256 },
 	{ "slp_length_field", call_length_field, 256 },

@@ -3,7 +3,7 @@
 use std::hint::black_box;
 
 use games::{
-	shaped::{Items, Shape},
+	shaped::{self, Items, Shape},
 	Case,
 };
 
@@ -18,6 +18,8 @@ enum Ids {
 	Again(usize, usize),
 	/// each once, in any order over all ids that there are
 	Scattered,
+	/// as in a match that is played, with its items
+	Played,
 }
 
 #[derive(Clone, Copy)]
@@ -32,6 +34,7 @@ pub const GAMES: &[Rows] = &[
 	Rows { name: "28,672 rows, seven again every 60", rows: 28_672, ids: Ids::Again(60, 7) },
 	Rows { name: "28,672 rows, one again every 10", rows: 28_672, ids: Ids::Again(10, 1) },
 	Rows { name: "28,672 rows, ids in any order", rows: 28_672, ids: Ids::Scattered },
+	Rows { name: "28,900 rows, a match as it is played", rows: 28_900, ids: Ids::Played },
 	Rows { name: "65,536 rows, ids in any order", rows: 65_536, ids: Ids::Scattered },
 	Rows { name: "262,144 rows, ids in any order", rows: 262_144, ids: Ids::Scattered },
 	Rows { name: "1,048,576 rows, ids in any order", rows: 1_048_576, ids: Ids::Scattered },
@@ -48,9 +51,7 @@ pub struct Finals {
 
 impl Finals {
 	pub fn new(game: Rows) -> Self {
-		let shape = Shape { name: game.name, version: (3, 18), frames: game.rows, players: 2, items: Items::Every(0) };
-		let mut case = longer(shape);
-		case.ids = ids(game);
+		let case = made(game);
 		let room = slp::room(&slp::Plan::of(&case.game, &case.stores())).unwrap();
 		Self { case, out: vec![0; room], scratch: vec![0; game.rows] }
 	}
@@ -66,11 +67,16 @@ impl Finals {
 	}
 }
 
-fn ids(game: Rows) -> Vec<u32> {
-	let place = |row: usize| match game.ids {
-		Ids::Rising => row,
-		Ids::Again(every, back) => row - row / every * back,
-		Ids::Scattered => row * 7919 % 1_048_576,
+fn made(game: Rows) -> Case {
+	let shape = Shape { name: game.name, version: (3, 18), frames: game.rows, players: 2, items: Items::Every(0) };
+	let by = |place: &dyn Fn(usize) -> usize| {
+		let ids = (0..game.rows).map(|row| (place(row) as i32 - 123) as u32).collect();
+		Case { ids, ..longer(shape) }
 	};
-	(0..game.rows).map(|row| (place(row) as i32 - 123) as u32).collect()
+	match game.ids {
+		Ids::Rising => by(&|row| row),
+		Ids::Again(every, back) => by(&|row| row - row / every * back),
+		Ids::Scattered => by(&|row| row * 7919 % 1_048_576),
+		Ids::Played => shaped::game(Shape { items: Items::Played, ..shape }),
+	}
 }

@@ -21,6 +21,7 @@ pub const SHAPES: &[Shape] = &[
 	shape("40,000 frames", 40_000),
 	shape("80,000 frames", 80_000),
 	shape("160,000 frames", 160_000),
+	Shape { name: "28,900 frames, a match as it is played", version: (3, 18), frames: 28_900, players: 2, items: Items::Played },
 ];
 
 pub const WHAT: &[&str] = &[

@@ -3,7 +3,7 @@
 use std::hint::black_box;
 
 use games::{
-	adapt,
+	adapt, kept,
 	lent::Lent,
 	shaped::{self, Shape},
 	Case,
@@ -19,6 +19,7 @@ pub const WHAT: &[&str] = &[
 	"write: copy of the bytes",
 	"run of 1,000 frames: libslp",
 	"run of no frames: libslp",
+	"runs of 60 frames: libslp",
 	"check: libslp",
 	"measure: libslp",
 	"read: libslp",
@@ -57,7 +58,11 @@ pub struct Work {
 	mask: Vec<u8>,
 	scratch: Vec<u8>,
 	lent: Lent,
+	runs: Vec<Case>,
 }
+
+/// Frames that a recorder lends at once, as a small game of their own: a second of play.
+const RUN: usize = 60;
 
 impl Work {
 	/// The game, with both writers' files compared, and with its columns read from the file as they were.
@@ -75,7 +80,7 @@ impl Work {
 		let scratch = vec![0; slp::scratch_len(&case.ids)];
 		let room = Vec::with_capacity(file.len());
 		let lent = plain::read_both(&case, &file);
-		Self { case, rust, file, fixed, room, events, mask, scratch, lent }
+		Self { case, rust, file, fixed, room, events, mask, scratch, lent, runs: Vec::new() }
 	}
 
 	pub fn name(&self) -> &str {
@@ -132,6 +137,7 @@ impl Work {
 			"run of no frames: libslp" => {
 				_ = black_box(slp::write_frames(&self.case.game.frames, &self.case.stores(), &mut self.fixed, 0, 500..500))
 			}
+			"runs of 60 frames: libslp" => self.record(),
 			"check: libslp" => _ = black_box(slp::check(black_box(&self.file))),
 			"measure: libslp" => _ = black_box(slp::measure(black_box(&self.file))),
 			"read: libslp" => _ = black_box(self.lent.read(black_box(&self.file))),
@@ -145,6 +151,20 @@ impl Work {
 			_ => self.run_mask(what),
 		}
 		black_box((&mut self.fixed, &mut self.mask, &mut self.lent));
+	}
+
+	/// All frames, in runs; what is lent with each is made once.
+	fn record(&mut self) {
+		if self.runs.is_empty() {
+			let rows: Vec<usize> = (0..self.case.ids.len()).collect();
+			self.runs = rows.chunks(RUN).map(|run| kept::of_rows(&self.case, run)).collect();
+		}
+		let out = &mut self.fixed;
+		let end = self.runs.iter().fold(0, |place, run| {
+			let frames = &black_box(run).game.frames;
+			slp::write_frames(frames, &run.stores(), out, place, 0..frames.counts.frames).unwrap()
+		});
+		black_box(end);
 	}
 
 	fn run_mask(&mut self, what: &str) {

@@ -1,41 +1,42 @@
 // How many bytes a run of frames has, by counts: what is judged before anything is written.
 ghost use mathlib.Core.Path.{_≡_};
-ghost use mathlib.Core.Bool.{false};
+ghost use mathlib.Core.Bool.{true, false};
 ghost use Prim.Native.Nat.{_-_, _*_, _≤_};
 ghost use Rattle.game.specs.Frames.{slotsOf};
 ghost use Rattle.game.specs.Stores.{offsets};
-ghost use Rattle.players.specs.Inner.{Covers, Modest, Slotted};
+ghost use Rattle.players.specs.Inner.{Covers, Modest, Ranges, Slotted};
 ghost use Rattle.players.specs.Presence.{marked, countFrom, presenceWrong};
 ghost use Rattle.frames.specs.Inner.{Placed};
 ghost use Rattle.layout.specs.declared.columns.Family.the-variants.{Item, FodPlatform, DreamlandWhispy, StadiumTransformation};
-ghost use Rattle.events.specs.Length.{eventSize, playersOver, rowsBetween, runLength};
-use format::version::Version;
+ghost use Rattle.events.specs.Eights.{rowSize};
+ghost use Rattle.events.specs.Inner.{ShapesOf};
+ghost use Rattle.events.specs.Length.{playersOver, rowsBetween, runLength};
+use events::shapes::Shape;
+use events::shapes::Shapes;
 use game::frames::Frames;
-use layout::columns::Family;
-use layout::payloads::record_size;
 use players::presence::present_in;
 use players::slots::Slots;
 
-// n records of a family; none where the version lacks it.
-fn records_len(v: Version, family: Family, n: usize) -> usize
-    requires { ⌜ n ≤ 8388608 ⌝ }
-    ensures { λ r. ⌜ (r ≡ n * eventSize v family) × (r ≤ 2147483648) ⌝ }
+// n records of a family that has no players; none where the version lacks it.
+fn records_len(m: Shape, n: usize) -> usize
+    requires { ⌜ (m .bytes ≤ 128) × (n ≤ 8388608) ⌝ }
+    ensures { λ r. ⌜ (r ≡ n * rowSize m) × (r ≤ 2147483648) ⌝ }
 {
-    if family.exists(v) {
-        return n * (1 + record_size(family, v));
+    if m.given {
+        return n * (5 + m.bytes);
     }
     0
 }
 
-// The rows by offsets of the frames from a on and before b.
-fn rows_len(f: Frames, family: Family, offsets: &[u32], a: usize, b: usize) -> usize
-    requires { ⌜ Modest f × Placed f family (now offsets) × (a ≤ b) × (b ≤ f .counts .frames) ⌝ }
-    ensures { λ r. ⌜ (r ≡ rowsBetween (now (offsets .entry)) a b * eventSize (f .version) family) × (r ≤ 2147483648) ⌝ }
+// Of such a family with offsets the rows of the frames from a on and before b.
+fn rows_len(m: Shape, offsets: &[u32], frames: usize, a: usize, b: usize) -> usize
+    requires { ⌜ (m .bytes ≤ 128) × (m .rows ≤ 8388608) × (m .given ≡ true → Ranges frames (m .rows) (now offsets)) × (a ≤ b) × (b ≤ frames) ⌝ }
+    ensures { λ r. ⌜ (r ≡ rowsBetween (now (offsets .entry)) a b * rowSize m) × (r ≤ 2147483648) ⌝ }
 {
-    if family.exists(f.version) {
+    if m.given {
         let first = offsets[a] as usize;
         let next = offsets[b] as usize;
-        return records_len(f.version, family, next - first);
+        return records_len(m, next - first);
     }
     0
 }
@@ -65,9 +66,10 @@ fn players_between(f: Frames, s: Slots, presence: &[u8], a: usize, b: usize) -> 
     n
 }
 
-// The events of the frames from a on and before b.
+// The events of the frames from a on and before b, by the shapes of their families.
 pub fn run_len(
     f: Frames,
+    shapes: Shapes,
     s: Slots,
     item_offsets: &[u32],
     fod_offsets: &[u32],
@@ -77,7 +79,7 @@ pub fn run_len(
     a: usize,
     b: usize,
 ) -> usize
-    requires { ⌜ (Modest f × Slotted f s × (presenceWrong f (now presence) ≡ false))
+    requires { ⌜ (Modest f × Slotted f s × (presenceWrong f (now presence) ≡ false) × ShapesOf f shapes)
         × (Placed f Item (now «item_offsets») × Placed f FodPlatform (now «fod_offsets»)
         × Placed f DreamlandWhispy (now «whispy_offsets») × Placed f StadiumTransformation (now «stadium_offsets»))
         × (a ≤ b)
@@ -86,15 +88,15 @@ pub fn run_len(
         (offsets (now («item_offsets» .entry)) (now («fod_offsets» .entry)) (now («whispy_offsets» .entry)) (now («stadium_offsets» .entry)))
         (now (presence .entry)) a b ⌝ }
 {
-    let v = f.version;
+    let n = f.counts.frames;
     let players = players_between(f, s, presence, a, b);
-    let starts = records_len(v, Family::FrameStart, b - a);
-    let pres = records_len(v, Family::Pre, players);
-    let fods = rows_len(f, Family::FodPlatform, fod_offsets, a, b);
-    let whispys = rows_len(f, Family::DreamlandWhispy, whispy_offsets, a, b);
-    let stadiums = rows_len(f, Family::StadiumTransformation, stadium_offsets, a, b);
-    let items = rows_len(f, Family::Item, item_offsets, a, b);
-    let posts = records_len(v, Family::Post, players);
-    let ends = records_len(v, Family::FrameEnd, b - a);
+    let starts = records_len(shapes.start, b - a);
+    let pres = players * (7 + shapes.pre.bytes);
+    let fods = rows_len(shapes.fod, fod_offsets, n, a, b);
+    let whispys = rows_len(shapes.whispy, whispy_offsets, n, a, b);
+    let stadiums = rows_len(shapes.stadium, stadium_offsets, n, a, b);
+    let items = rows_len(shapes.item, item_offsets, n, a, b);
+    let posts = players * (7 + shapes.post.bytes);
+    let ends = records_len(shapes.end, b - a);
     starts + (pres + (fods + (whispys + (stadiums + (items + (posts + ends))))))
 }

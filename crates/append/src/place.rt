@@ -9,7 +9,7 @@ ghost use Rattle.frames.specs.Judge.{refusals};
 ghost use Rattle.append.specs.Run.{outsideFrames, RunOutcome};
 use super::appended::Appended;
 use super::length::run_len;
-use events::frame::put_frames;
+use events::shapes::shapes_of;
 use format::refusal::SHORT_OUTPUT;
 use game::frames::Frames;
 use players::slots::slots_of;
@@ -59,8 +59,10 @@ pub fn put_run(
         (now (presence .entry))) a b place (now (out .entry)) r (now (out .exit)) ⌝ }
 {
     let s = slots_of(f);
+    let shapes = shapes_of(f);
     let len = run_len(
         f,
+        shapes,
         s,
         item_offsets,
         fod_offsets,
@@ -73,10 +75,10 @@ pub fn put_run(
     if is_short(out.len(), place, len) {
         return Appended::Refused(SHORT_OUTPUT);
     }
-    let end = put_frames(
+    let end = events::frame::put_run(
         out,
         place,
-        f,
+        shapes,
         s,
         a,
         b,

@@ -1,17 +1,17 @@
 -- The laws of shapes: where a row's cells are, and that records by shapes are the definition's events.
 -- Assumes nothing.
 use mathlib.Core.Path.{_≡_, refl, sym, ap, ap₂, subst, _∙_}
-use mathlib.Core.Bool.{Bool}
+use mathlib.Core.Bool.{Bool, true, false}
 use mathlib.Core.List.{List, [], _∷_, _++_, append-assoc}
 use Prim.Native.Nat.{ℕ, suc, _+_, _-_, _*_, _≤_, _<_}
-use native.Mathlib.Nat.{sub-zero, suc-mul, zero-mul, zero-add, mul-le-mul, mul-le-mul-right}
+use native.Mathlib.Nat.{sub-zero, sub-eq-zero-of-le, suc-mul, zero-mul, zero-add, mul-le-mul, mul-le-mul-right}
 use native.Mathlib.Numerals.{add-one}
 use native.Mathlib.Omega.{arith}
 use lib.ListN.{length, getD}
 use lib.Seq.{length-take-le}
-use Rattle.wire.specs.Wire.{ranged, keep, Wrote}
+use Rattle.wire.specs.Wire.{ranged, keep, Room, Wrote}
 use Rattle.wire.proofs.Laws.{ranged-same}
-use Rattle.wire.proofs.Writers.{wrote-then}
+use Rattle.wire.proofs.Writers.{room-first, room-second, wrote-then, wrote-as, wrote-none}
 use Rattle.format.specs.File.{Ev, eventBytes, eventsBytes}
 use Rattle.format.proofs.Files.{events-one, events-both, events-ranged, events-keep}
 use Rattle.layout.specs.Inner.{Narrow}
@@ -23,13 +23,13 @@ use Rattle.record.specs.Record.{recordOf}
 use Rattle.record.specs.Inner.{InStore}
 use Rattle.game.specs.Frames.{Slot, slotsOf, rowsOf, slotBlocks}
 use Rattle.players.specs.Inner.{slotIn, Slotted, Ranges}
-use Rattle.game.specs.Stores.{Lent, cellsOf, offsetsOf}
+use Rattle.game.specs.Stores.{Lent, Offsets, cellsOf, offsetsOf}
 use Rattle.players.specs.Presence.{presentAt}
 use Rattle.game.specs.declared.frames.Frames.{Frames}
 use Rattle.players.specs.declared.slots.Slots.{Slots}
 use Rattle.players.proofs.PresenceLaws.{slot-at}
 use Rattle.events.specs.Events.{plainHead, headOf, playerOf, rowOf, idOf, oneEvent, rowEvents, playerEvent, playerEvents, frameEvents, framesEvents}
-use Rattle.events.specs.Inner.{RangesIn, Framed, ShapeOf, ShapesOf, columnsIn, recordIn, oneBytes, rowsBytes, slotBytes, slotsBytes, middleBytes, frameBytes, LaidOut, PerFrame, PerOffset, Supplied}
+use Rattle.events.specs.Inner.{RangesIn, Framed, ShapeOf, ShapesOf, columnsIn, recordIn, oneBytes, rowsBytes, slotBytes, slotsBytes, middleBytes, frameBytes, Lacking, LaidOut, PerFrame, PerOffset, Supplied}
 use Rattle.events.specs.declared.shapes.Shape.{Shape}
 use Rattle.events.specs.declared.shapes.Shapes.{Shapes}
 
@@ -177,6 +177,28 @@ pub frames-run : (f : Frames) (lent : Lent) → framesEvents f lent ≡ ranged (
 unfolding framesEvents
 frames-run f lent = rw (sub-zero (f .counts .frames))
 
+-- ---- a frame without rows by offsets
+kept-none : (b : Bool) (f : ℕ → List ℕ) (a n : ℕ) → (b ≡ true → n ≡ 0) → keep b (ranged f a n) ≡ []
+unfolding keep ranged
+kept-none true f a n h = ap (λ (k : ℕ). ranged f a k) (h refl)
+kept-none false f a n h = refl
+
+rows-none : (m : Shape) (cells offsets : List ℕ) (id i : ℕ) → Lacking m offsets i → rowsBytes m cells offsets id i ≡ []
+unfolding rowsBytes
+rows-none m cells offsets id i h =
+    kept-none (m .given) (λ j. recordIn m cells (plainHead (m .code) id) j) (getD offsets i 0) (getD offsets (i + 1) 0 - getD offsets i 0) (λ e. sub-eq-zero-of-le (h e))
+
+pub middle-none : (p : Shapes) (items fods whispys stadiums : List ℕ) (o : Offsets) (id i : ℕ)
+    → Lacking (p .fod) (o .fods) i → Lacking (p .whispy) (o .whispys) i → Lacking (p .stadium) (o .stadiums) i → Lacking (p .item) (o .items) i
+    → [] ≡ middleBytes p items fods whispys stadiums o id i
+unfolding middleBytes
+middle-none p items fods whispys stadiums o id i a b c d =
+    sym (rw (rows-none (p .fod) fods (o .fods) id i a, rows-none (p .whispy) whispys (o .whispys) id i b, rows-none (p .stadium) stadiums (o .stadiums) id i c, rows-none (p .item) items (o .items) id i d))
+
+pub wrote-nothing : {out : List ℕ} {at : ℕ} {xs : List ℕ} → [] ≡ xs → Wrote out out at at xs
+unfolding keep
+wrote-nothing {out} {at} e = wrote-as e (wrote-none out at false [] refl)
+
 -- ---- a frame, part after part
 module _ (p : Shapes) (s : Slots) (lent : Lent) (i : ℕ) where
   pub frame-wrote : {a0 a1 a2 a3 a4 a5 : List ℕ} {p0 p1 p2 p3 p4 p5 : ℕ}
@@ -189,6 +211,33 @@ module _ (p : Shapes) (s : Slots) (lent : Lent) (i : ℕ) where
       → Wrote a0 a5 p0 p5 (frameBytes p s lent i)
   unfolding frameBytes
   frame-wrote w1 w2 w3 w4 w5 = wrote-then w1 (wrote-then w2 (wrote-then w3 (wrote-then w4 w5)))
+
+  -- each part has room where the one before it ended
+  module _ {a0 : List ℕ} {p0 : ℕ} (r : Room a0 p0 (frameBytes p s lent i)) where
+    pub start-room : Room a0 p0 (oneBytes (p .start) (lent .cells .starts) (idOf lent i) i)
+    unfolding frameBytes
+    start-room = room-first _ r
+
+    module _ {a1 : List ℕ} {p1 : ℕ} (w1 : Wrote a0 a1 p0 p1 (oneBytes (p .start) (lent .cells .starts) (idOf lent i) i)) where
+      pub pre-room : Room a1 p1 (slotsBytes (p .pre) s (lent .cells .pres) (lent .presence) (idOf lent i) i)
+      unfolding frameBytes
+      pre-room = room-first _ (room-second r w1)
+
+      module _ {a2 : List ℕ} {p2 : ℕ} (w2 : Wrote a1 a2 p1 p2 (slotsBytes (p .pre) s (lent .cells .pres) (lent .presence) (idOf lent i) i)) where
+        pub middle-room : Room a2 p2 (middleBytes p (lent .cells .items) (lent .cells .fods) (lent .cells .whispys) (lent .cells .stadiums) (lent .offsets) (idOf lent i) i)
+        unfolding frameBytes
+        middle-room = room-first _ (room-second (room-second r w1) w2)
+
+        module _ {a3 : List ℕ} {p3 : ℕ}
+            (w3 : Wrote a2 a3 p2 p3 (middleBytes p (lent .cells .items) (lent .cells .fods) (lent .cells .whispys) (lent .cells .stadiums) (lent .offsets) (idOf lent i) i)) where
+          pub post-room : Room a3 p3 (slotsBytes (p .post) s (lent .cells .posts) (lent .presence) (idOf lent i) i)
+          unfolding frameBytes
+          post-room = room-first _ (room-second (room-second (room-second r w1) w2) w3)
+
+          pub end-room : {a4 : List ℕ} {p4 : ℕ} → Wrote a3 a4 p3 p4 (slotsBytes (p .post) s (lent .cells .posts) (lent .presence) (idOf lent i) i)
+              → Room a4 p4 (oneBytes (p .end) (lent .cells .ends) (idOf lent i) i)
+          unfolding frameBytes
+          end-room w4 = room-second (room-second (room-second (room-second r w1) w2) w3) w4
 
 -- ---- the players' blocks, one after another
 pub next-first : (block k i first : ℕ) → first ≡ k * block + i → first + block ≡ (k + 1) * block + i

@@ -85,6 +85,10 @@ slotBytes m s cells bits id i k =
 unfoldable pub slotsBytes : Shape → Slots → List ℕ → List ℕ → ℕ → ℕ → List ℕ
 slotsBytes m s cells bits id i = ranged (slotBytes m s cells bits id i) 0 (s .count)
 
+-- frame i has no row of a family with offsets
+abbrev pub Lacking : Shape → List ℕ → ℕ → Type 0
+Lacking m offsets i = m .given ≡ true → getD offsets (i + 1) 0 ≤ getD offsets i 0
+
 -- the rows by offsets: the stage's, then the items
 unfoldable pub middleBytes : Shapes → (items fods whispys stadiums : List ℕ) → Offsets → ℕ → ℕ → List ℕ
 middleBytes p items fods whispys stadiums o id i =

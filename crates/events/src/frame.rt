@@ -9,7 +9,7 @@ ghost use Rattle.game.specs.Stores.{cells, offsets, lent};
 ghost use Rattle.events.specs.Events.{frameEvents};
 ghost use Rattle.events.specs.Inner.{Framed, frameBytes, Supplied};
 use super::eights::put_eight;
-use super::middle::put_middle;
+use super::middle::put_between;
 use super::rows::put_one;
 use super::rows::put_players;
 use super::shapes::Shapes;
@@ -60,7 +60,7 @@ fn put_frame(
     let n = ids.len();
     let mut p = put_one(out, at, shapes.start, starts, id, i);
     p = put_players(out, p, shapes.pre, s, pres, presence, id, i);
-    p = put_middle(
+    p = put_between(
         out,
         p,
         shapes,

@@ -4,7 +4,7 @@ use mathlib.Core.Path.{_≡_, refl, sym, ap, _∙_}
 use mathlib.Core.Bool.{Bool, true, false, not, _||_, or-assoc, or-false}
 use mathlib.Core.List.{List, [], _∷_, _++_, map, map-append}
 use Prim.Native.Nat.{ℕ, zero, suc, _+_, _*_, _-_, _%_, _^_, _≤_, _<_}
-use native.Mathlib.Nat.{add-comm, add-assoc, zero-add, mul-assoc, zero-mul, suc-mul, add-mul, one-mul, mul-le-mul-right, pow-le-pow-right, lt-of-lt-of-le, sub-eq-zero-of-le, add-sub-cancel-left}
+use native.Mathlib.Nat.{add-comm, add-assoc, zero-add, mul-assoc, mul-zero, zero-mul, suc-mul, add-mul, one-mul, mul-le-mul-right, pow-le-pow-right, lt-of-lt-of-le, sub-eq-zero-of-le, add-sub-cancel-left}
 use native.Mathlib.Numerals.{add-one}
 use native.Mathlib.Omega.{arith}
 use borrow.Author.Tests.{le-leb, lt-leb, leb-true, leb-false, eqb-true, not-false}
@@ -168,6 +168,17 @@ whole-runs family v p e = record {
   lengths = e .lengths-room;
 }
 
+-- columns without rows have no cell
+columns-rowless : (ws cells : List ℕ) → columnsExceed ws 0 cells ≡ false
+unfolding columnsExceed oneOf
+columns-rowless [] cells = refl
+columns-rowless (w ∷ ws) cells = columns-rowless ws (drop 0 cells)
+
+blocks-rowless : (n : ℕ) (ws cells : List ℕ) → blocksExceed n ws 0 cells ≡ false
+unfolding blocksExceed
+blocks-rowless zero ws cells = refl
+blocks-rowless (suc n) ws cells = rw (columns-rowless ws cells) (blocks-rowless n ws (drop (length ws * 0) cells))
+
 module _ (f : Frames) (family : Family) (store : List ℕ) where
   -- as the code finds it, with the family's own numbers
   pub misfits-as : (blocks columns rows : ℕ) → blocks ≡ slotBlocks f family → columns ≡ length (widthsOf family (f .version)) → rows ≡ rowsOf f family
@@ -187,6 +198,21 @@ module _ (f : Frames) (family : Family) (store : List ℕ) where
       → t ≡ blocksExceed blocks (runWidths p) rows store → t ≡ exceeds f family store
   unfolding exceeds
   exceeds-as t blocks rows p b w r q = rw (b, w .each, r) at q
+
+  -- without rows
+  module _ (rows : ℕ) (r : rows ≡ rowsOf f family) (z : rows ≡ 0) where
+    pub misfits-none : not (eqb (length store) 0) ≡ misfits f family store
+    misfits-none =
+        let n = slotBlocks f family in
+        let k = length (widthsOf family (f .version)) in
+        let none : n * (k * rows) ≡ 0 = ap (λ (m : ℕ). n * (k * m)) z ∙ ap (λ (m : ℕ). n * m) (mul-zero k) ∙ mul-zero n in
+        ap (λ (m : ℕ). not (eqb (length store) m)) (sym none) ∙ misfits-as n k rows refl refl r
+
+    pub exceeds-none : false ≡ exceeds f family store
+    unfolding exceeds
+    exceeds-none =
+        sym (ap (λ (m : ℕ). blocksExceed (slotBlocks f family) (widthsOf family (f .version)) m store) (sym r ∙ z)
+        ∙ blocks-rowless (slotBlocks f family) (widthsOf family (f .version)) store)
 
 -- ---- all families
 pub family-none : (p : Family → Bool) → oneOf (map p families) ≡ false → (family : Family) → p family ≡ false

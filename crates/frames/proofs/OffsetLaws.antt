@@ -1,12 +1,12 @@
 -- The laws of offsets.
 -- Assumes nothing.
 use mathlib.Core.Path.{_≡_, refl, sym, ap, _∙_}
-use mathlib.Core.Bool.{Bool, true, false, not, _||_}
+use mathlib.Core.Bool.{Bool, true, false, not, _||_, or-assoc, or-false}
 use mathlib.Core.List.{List, [], _∷_}
 use Prim.Native.Nat.{ℕ, zero, suc, _+_, _-_, _≤_, _<_}
 use native.Mathlib.Numerals.{add-one}
 use native.Mathlib.Omega.{arith}
-use borrow.Author.Tests.{lt-ltb, le-ltb, ltb-false}
+use borrow.Author.Tests.{ltb-false}
 use native.Mathlib.Decide.{decLt}
 use lib.Dec.{ltb, eqb}
 use lib.ListN.{length, getD, drop, drop-of-length-le}
@@ -21,7 +21,7 @@ use Rattle.players.proofs.CountLaws.{rises}
 use Rattle.frames.specs.Inner.{Placed}
 use Rattle.game.specs.declared.frames.Frames.{Frames}
 
--- ---- a fall, in a loop: r is what is left to find from the offset before index i on
+-- ---- a fall, in a loop: one was found, or is left to find from the offset before index i on
 falls-step : (os : List ℕ) (j : ℕ) → j + 1 < length os → falls (drop j os) ≡ (ltb (getD os (j + 1) 0) (getD os j 0) || falls (drop (j + 1) os))
 unfolding falls
 falls-step os j h = rw (drop-cons os j 0 (omega arith), ← add-one j, drop-cons os (j + 1) 0 h)
@@ -34,20 +34,16 @@ falls-end os j h =
       | no r ↦ let past : length os ≤ j = omega arith in rw (drop-of-length-le os past)
     ]
 
-module _ (r : Bool) (os : List ℕ) (i : ℕ) (q : r ≡ falls (drop (i - 1) os)) where
-  pub falls-here : 1 ≤ i → i < length os → getD os i 0 < getD os (i - 1) 0 → true ≡ r
-  falls-here h l t =
-      let next : i - 1 + 1 ≡ i = omega arith in
-      sym (q ∙ falls-step os (i - 1) (omega arith) ∙ rw (next, lt-ltb (getD os i 0) (getD os (i - 1) 0) t))
-
-  pub falls-skip : 1 ≤ i → i < length os → getD os (i - 1) 0 ≤ getD os i 0 → r ≡ falls (drop (i + 1 - 1) os)
-  falls-skip h l t =
+module _ (found : Bool) (os : List ℕ) (i : ℕ) (q : (found || falls (drop (i - 1) os)) ≡ falls os) where
+  pub falls-more : 1 ≤ i → i < length os → ((found || ltb (getD os i 0) (getD os (i - 1) 0)) || falls (drop (i + 1 - 1) os)) ≡ falls os
+  falls-more h l =
       let next : i - 1 + 1 ≡ i = omega arith in
       let here : i + 1 - 1 ≡ i = omega arith in
-      q ∙ falls-step os (i - 1) (omega arith) ∙ rw (next, le-ltb (getD os i 0) (getD os (i - 1) 0) t, here)
+      let step : falls (drop (i - 1) os) ≡ (ltb (getD os i 0) (getD os (i - 1) 0) || falls (drop i os)) = falls-step os (i - 1) (omega arith) ∙ rw next in
+      rw (here, or-assoc) (rw step at q)
 
-  pub falls-none : length os ≤ i → false ≡ r
-  falls-none h = sym (q ∙ falls-end os (i - 1) (omega arith))
+  pub falls-done : length os ≤ i → found ≡ falls os
+  falls-done h = sym (or-false found) ∙ rw (falls-end os (i - 1) (omega arith)) at q
 
 -- ---- a family's offsets, as the code finds them
 module _ (f : Frames) (family : Family) (os : List ℕ) (t : Bool) (e : t ≡ hasFamily (f .version) family) (rows : ℕ) (k : rows ≡ rowsOf f family) where

@@ -7,18 +7,17 @@ ghost use Rattle.players.specs.Inner.{Modest};
 use game::frames::Frames;
 use layout::columns::Family;
 
-// Whether an offset is below the one before it.
+// Whether an offset is below the one before it. All of them are looked at, several at a time: nearly always none is.
 fn one_falls(os: &[u32]) -> bool
     ensures { λ r. ⌜ r ≡ falls (now (os .entry)) ⌝ }
 {
+    let mut found = false;
     let mut i: usize = 1;
     while i < os.len() {
-        if os[i] < os[i - 1] {
-            return true;
-        }
+        found = found | (os[i] < os[i - 1]);
         i += 1;
     }
-    false
+    found
 }
 
 // Whether the offsets of a family are not a range of its rows for each frame.

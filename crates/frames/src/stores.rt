@@ -24,6 +24,9 @@ fn store_misfits(f: Frames, family: Family, store: &[u32]) -> bool
     ensures { λ r. ⌜ r ≡ misfits f family (now (store .entry)) ⌝ }
 {
     let rows = f.rows(family);
+    if rows == 0 {
+        return store.len() != 0;
+    }
     let columns = columns(family, f.version);
     let blocks = blocks(f, family);
     store.len() != blocks * (columns * rows)
@@ -98,6 +101,9 @@ fn store_exceeds(f: Frames, family: Family, store: &[u32]) -> bool
     ensures { λ r. ⌜ r ≡ exceeds f family (now (store .entry)) ⌝ }
 {
     let rows = f.rows(family);
+    if rows == 0 {
+        return false;
+    }
     let runs = runs_of(family, f.version);
     let blocks = blocks(f, family);
     blocks_exceed(runs, store, blocks, rows)

@@ -1,4 +1,4 @@
--- The table's laws: the code's list of numbers is the definition's table, flattened, and a family's columns stand at its place in it.
+-- The table's laws: a list of numbers that is the definition's table says of each column what the definition says, and a family's columns stand at its place in it.
 -- Assumes nothing.
 use mathlib.Core.Path.{_≡_, refl, sym, ap, _∙_}
 use mathlib.Core.Bool.{Bool, true, false, cond}
@@ -8,7 +8,7 @@ use native.Mathlib.Nat.{add-zero, zero-add, add-assoc}
 use native.Mathlib.Numerals.{add-one}
 use native.Mathlib.Omega.{arith}
 use lib.Dec.{T, leb, leb→le, lit≤}
-use lib.ListN.{length, take, drop, set, getD, drop-of-length-le, List·getD-map}
+use lib.ListN.{length, take, drop, set, getD, drop-of-length-le, length-map, List·getD-map}
 use lib.Seq.{getD-take, getD-drop, drop-cons, take-suc-set}
 use Rattle.format.specs.declared.version.Version.{Version}
 use Rattle.format.specs.Version.{gteOf}
@@ -16,24 +16,25 @@ use Rattle.layout.specs.declared.columns.Column.{Column}
 use Rattle.layout.specs.declared.columns.Family.{Family}
 use Rattle.layout.specs.declared.columns.Family.the-variants.{Pre, Post, FrameStart, Item, FrameEnd, FodPlatform, DreamlandWhispy, StadiumTransformation}
 use Rattle.layout.specs.Columns.{col, columnsOf, chosen, since, sum, widthsOf}
-use Rattle.layout.specs.Inner.{Narrow, table, firstColumn, countOf}
+use Rattle.layout.specs.Inner.{Narrow, table, columnOf, firstColumn, countOf}
 use Rattle.layout.specs.Payloads.{headSize}
 
--- a column as a number of the code's table, and the column that the code makes of a number
+-- the numbers of the code's table, and that they say what the definition says
 unfoldable pub packed : List Column → List ℕ
 packed [] = []
-packed (c ∷ cs) = (c .width * 1000000 + c .major * 1000 + c .minor) ∷ packed cs
+packed (c ∷ cs) = (c .width * 1000 + c .major * 100 + c .minor) ∷ packed cs
 
-abbrev pub unpack : ℕ → Column
-unpack x = col (x / 1000000 % 256) (x / 1000 % 1000 % 256) (x % 1000 % 256)
-
--- the code's table is the definition's
-unpacked : map unpack (packed table) ≡ table
+pub unpacked : map columnOf (packed table) ≡ table
 unfolding packed table columnsOf
 unpacked = refl
 
-pub entry-is : (i : ℕ) → unpack (getD (packed table) i 0) ≡ getD table i (col 0 0 0)
-entry-is i = sym (List·getD-map unpack (packed table) i 0) ∙ ap (λ (l : List Column). getD l i (col 0 0 0)) unpacked
+-- what a lent table says of its i-th column, where its numbers are the definition's columns
+column-at : (xs : List ℕ) → map columnOf xs ≡ table → (i : ℕ) → columnOf (getD xs i 0) ≡ getD table i (col 0 0 0)
+column-at xs e i = sym (List·getD-map columnOf xs i 0) ∙ ap (λ (l : List Column). getD l i (col 0 0 0)) e
+
+pub table-long : (xs : List ℕ) → map columnOf xs ≡ table → length xs ≡ 75
+unfolding table columnsOf
+table-long xs e = sym (length-map xs columnOf) ∙ ap length e
 
 -- what holds of each family holds of any
 pub each : (P : Family → Type 0) → P Pre × P Post × P FrameStart × P Item × P FrameEnd × P FodPlatform × P DreamlandWhispy × P StadiumTransformation → (f : Family) → P f
@@ -58,11 +59,15 @@ pub count-is : (f : Family) → length (columnsOf f) ≡ countOf f
 unfolding columnsOf
 count-is = each _ (refl, refl, refl, refl, refl, refl, refl, refl)
 
-pub family-at : (f : Family) (i : ℕ) → i < countOf f → getD table (firstColumn f + i) (col 0 0 0) ≡ getD (columnsOf f) i (col 0 0 0)
+family-at : (f : Family) (i : ℕ) → i < countOf f → getD table (firstColumn f + i) (col 0 0 0) ≡ getD (columnsOf f) i (col 0 0 0)
 family-at f i h =
     sym (getD-drop (firstColumn f) table i (col 0 0 0))
     ∙ sym (getD-take (countOf f) (drop (firstColumn f) table) i (col 0 0 0) h)
     ∙ ap (λ (l : List Column). getD l i (col 0 0 0)) (family f)
+
+-- the i-th column of a family, by such a list
+pub column-in : (xs : List ℕ) → map columnOf xs ≡ table → (f : Family) (k i : ℕ) → k ≡ firstColumn f → i < countOf f → columnOf (getD xs (k + i) 0) ≡ getD (columnsOf f) i (col 0 0 0)
+column-in xs e f k i p h = column-at xs e (k + i) ∙ ap (λ (j : ℕ). getD table (j + i) (col 0 0 0)) p ∙ family-at f i h
 
 pub small : (f : Family) → countOf f ≤ 32
 small = each _ (lit≤ tt, lit≤ tt, lit≤ tt, lit≤ tt, lit≤ tt, lit≤ tt, lit≤ tt, lit≤ tt)

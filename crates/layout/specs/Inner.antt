@@ -1,13 +1,13 @@
 -- What the functions promise each other: the columns of all families as one table, a version's columns as an array and as runs of one width, and a
 -- payload table as two arrays.
 -- Assumes nothing.
-use Prim.Native.Nat.{ℕ, _≤_}
+use Prim.Native.Nat.{ℕ, _/_, _%_, _≤_}
 use mathlib.Core.Path.{_≡_}
 use mathlib.Core.List.{List, [], _∷_, _++_}
 use lib.ListN.{length, take, replicate}
 use Rattle.format.specs.File.{Entry, codes, sizes}
 use Rattle.format.specs.declared.version.Version.{Version}
-use Rattle.layout.specs.Columns.{columnsOf, widthsOf, sizeOf}
+use Rattle.layout.specs.Columns.{col, columnsOf, widthsOf, sizeOf}
 use Rattle.layout.specs.declared.columns.Column.{Column}
 use Rattle.layout.specs.declared.columns.Family.{Family}
 use Rattle.layout.specs.declared.columns.Family.the-variants.{Pre, Post, FrameStart, Item, FrameEnd, FodPlatform, DreamlandWhispy, StadiumTransformation}
@@ -21,6 +21,10 @@ table =
     ++ (columnsOf Post
     ++ (columnsOf FrameStart
     ++ (columnsOf Item ++ (columnsOf FrameEnd ++ (columnsOf FodPlatform ++ (columnsOf DreamlandWhispy ++ columnsOf StadiumTransformation))))))
+
+-- what a number of the code's table says: 4316 is a width of 4 bytes, from version 3.16 on
+abbrev pub columnOf : ℕ → Column
+columnOf x = col (x / 1000 % 256) (x / 100 % 10) (x % 100)
 
 abbrev pub firstColumn : Family → ℕ
 firstColumn Pre = 0

@@ -1,9 +1,7 @@
 // The one table of columns.
 ghost use mathlib.Core.Path.{_≡_};
-ghost use Prim.Native.Nat.{_<_};
-ghost use lib.ListN.{length, getD};
-ghost use Rattle.layout.specs.Columns.{col, columnsOf, firstVersion, hasFamily};
-ghost use Rattle.layout.specs.Inner.{table, firstColumn, countOf};
+ghost use Rattle.layout.specs.Columns.{firstVersion, hasFamily};
+ghost use Rattle.layout.specs.Inner.{columnOf, firstColumn, countOf};
 use format::version::Version;
 
 pub enum Family {
@@ -74,7 +72,7 @@ impl Family {
     }
 
     // Where its columns begin in the table.
-    fn first(self) -> usize
+    pub fn first(self) -> usize
         ensures { λ r. ⌜ r ≡ firstColumn self ⌝ }
     {
         match self {
@@ -113,118 +111,101 @@ pub struct Column {
     pub minor: u8,
 }
 
-// The columns of all families, one after another: 4_003_016 is a width of 4 bytes, from version 3.16 on.
-const COLUMNS: [u32; 75] = [
+// The columns of all families, one after another: 4_316 is a width of 4 bytes, from version 3.16 on. Compiled code builds the table wherever it is named, so
+// that a listing names it once and lends it.
+pub const COLUMNS: [u16; 75] = [
     // Pre
-    4_000_000, // random_seed
-    2_000_000, // state
-    4_000_000, // position.x
-    4_000_000, // position.y
-    4_000_000, // direction
-    4_000_000, // joystick.x
-    4_000_000, // joystick.y
-    4_000_000, // cstick.x
-    4_000_000, // cstick.y
-    4_000_000, // triggers
-    4_000_000, // buttons
-    2_000_000, // buttons_physical
-    4_000_000, // triggers_physical.l
-    4_000_000, // triggers_physical.r
-    1_001_002, // raw_analog_x
-    4_001_004, // percent
-    1_003_015, // raw_analog_y
-    1_003_017, // raw_analog_cstick_x
-    1_003_017, // raw_analog_cstick_y
+    4_000, // random_seed
+    2_000, // state
+    4_000, // position.x
+    4_000, // position.y
+    4_000, // direction
+    4_000, // joystick.x
+    4_000, // joystick.y
+    4_000, // cstick.x
+    4_000, // cstick.y
+    4_000, // triggers
+    4_000, // buttons
+    2_000, // buttons_physical
+    4_000, // triggers_physical.l
+    4_000, // triggers_physical.r
+    1_102, // raw_analog_x
+    4_104, // percent
+    1_315, // raw_analog_y
+    1_317, // raw_analog_cstick_x
+    1_317, // raw_analog_cstick_y
     // Post
-    1_000_000, // character
-    2_000_000, // state
-    4_000_000, // position.x
-    4_000_000, // position.y
-    4_000_000, // direction
-    4_000_000, // percent
-    4_000_000, // shield
-    1_000_000, // last_attack_landed
-    1_000_000, // combo_count
-    1_000_000, // last_hit_by
-    1_000_000, // stocks
-    4_000_002, // state_age
-    1_002_000, // state_flags.0
-    1_002_000, // state_flags.1
-    1_002_000, // state_flags.2
-    1_002_000, // state_flags.3
-    1_002_000, // state_flags.4
-    4_002_000, // misc_as
-    1_002_000, // airborne
-    2_002_000, // ground
-    1_002_000, // jumps
-    1_002_000, // l_cancel
-    1_002_001, // hurtbox_state
-    4_003_005, // velocities.self_x_air
-    4_003_005, // velocities.self_y
-    4_003_005, // velocities.knockback_x
-    4_003_005, // velocities.knockback_y
-    4_003_005, // velocities.self_x_ground
-    4_003_008, // hitlag
-    4_003_011, // animation_index
-    2_003_016, // last_hit_by_instance
-    2_003_016, // instance_id
+    1_000, // character
+    2_000, // state
+    4_000, // position.x
+    4_000, // position.y
+    4_000, // direction
+    4_000, // percent
+    4_000, // shield
+    1_000, // last_attack_landed
+    1_000, // combo_count
+    1_000, // last_hit_by
+    1_000, // stocks
+    4_002, // state_age
+    1_200, // state_flags.0
+    1_200, // state_flags.1
+    1_200, // state_flags.2
+    1_200, // state_flags.3
+    1_200, // state_flags.4
+    4_200, // misc_as
+    1_200, // airborne
+    2_200, // ground
+    1_200, // jumps
+    1_200, // l_cancel
+    1_201, // hurtbox_state
+    4_305, // velocities.self_x_air
+    4_305, // velocities.self_y
+    4_305, // velocities.knockback_x
+    4_305, // velocities.knockback_y
+    4_305, // velocities.self_x_ground
+    4_308, // hitlag
+    4_311, // animation_index
+    2_316, // last_hit_by_instance
+    2_316, // instance_id
     // FrameStart
-    4_002_002, // random_seed
-    4_003_010, // scene_frame_counter
+    4_202, // random_seed
+    4_310, // scene_frame_counter
     // Item
-    2_003_000, // type
-    1_003_000, // state
-    4_003_000, // direction
-    4_003_000, // velocity.x
-    4_003_000, // velocity.y
-    4_003_000, // position.x
-    4_003_000, // position.y
-    2_003_000, // damage
-    4_003_000, // timer
-    4_003_000, // id
-    1_003_002, // misc.0
-    1_003_002, // misc.1
-    1_003_002, // misc.2
-    1_003_002, // misc.3
-    1_003_006, // owner
-    2_003_016, // instance_id
+    2_300, // type
+    1_300, // state
+    4_300, // direction
+    4_300, // velocity.x
+    4_300, // velocity.y
+    4_300, // position.x
+    4_300, // position.y
+    2_300, // damage
+    4_300, // timer
+    4_300, // id
+    1_302, // misc.0
+    1_302, // misc.1
+    1_302, // misc.2
+    1_302, // misc.3
+    1_306, // owner
+    2_316, // instance_id
     // FrameEnd
-    4_003_007, // latest_finalized_frame
+    4_307, // latest_finalized_frame
     // FodPlatform
-    1_003_018, // platform
-    4_003_018, // height
+    1_318, // platform
+    4_318, // height
     // DreamlandWhispy
-    1_003_018, // direction
+    1_318, // direction
     // StadiumTransformation
-    2_003_018, // event
-    2_003_018, // type
+    2_318, // event
+    2_318, // type
 ];
 
-fn entry(i: usize) -> Column
-    requires { ⌜ i < 75 ⌝ }
-    ensures { λ r. ⌜ r ≡ getD table i (col 0 0 0) ⌝ }
+// What a number of the table says.
+pub fn column_of(x: u16) -> Column
+    ensures { λ r. ⌜ r ≡ columnOf x ⌝ }
 {
-    let x = COLUMNS[i];
     Column {
-        width: (x / 1_000_000 % 256) as u8,
-        major: (x / 1_000 % 1_000 % 256) as u8,
-        minor: (x % 1_000 % 256) as u8,
+        width: (x / 1_000 % 256) as u8,
+        major: (x / 100 % 10) as u8,
+        minor: (x % 100) as u8,
     }
-}
-
-// The i-th of the columns that a family ever had. This and its width below are the only readers of the table.
-pub fn nth(f: Family, i: usize) -> Column
-    requires { ⌜ i < length (columnsOf f) ⌝ }
-    ensures { λ r. ⌜ r ≡ getD (columnsOf f) i (col 0 0 0) ⌝ }
-{
-    entry(f.first() + i)
-}
-
-// The width of the same column by itself: of a version's columns nothing else is wanted.
-pub fn width_of(f: Family, i: usize) -> u8
-    requires { ⌜ i < length (columnsOf f) ⌝ }
-    ensures { λ r. ⌜ r ≡ getD (columnsOf f) i (col 0 0 0) .width ⌝ }
-{
-    let x = COLUMNS[f.first() + i];
-    (x / 1_000_000 % 256) as u8
 }

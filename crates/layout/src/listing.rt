@@ -1,13 +1,14 @@
 // What a version's record of a family looks like, worked out once and then used for every record.
 ghost use mathlib.Core.Path.{_≡_};
+ghost use mathlib.Core.List.{map};
 ghost use Prim.Native.Nat.{_+_, _≤_, _<_};
 ghost use lib.ListN.{length, getD, replicate};
 ghost use Rattle.wire.specs.Wire.{part};
 ghost use Rattle.layout.specs.Columns.{widthsOf, sizeOf};
-ghost use Rattle.layout.specs.Inner.{Widths, RunsOf};
+ghost use Rattle.layout.specs.Inner.{columnOf, table, Widths, RunsOf};
+use super::columns::COLUMNS;
 use super::columns::Family;
-use super::columns::nth;
-use super::columns::width_of;
+use super::columns::column_of;
 use format::version::Version;
 
 // The columns of a version's record: how many, their bytes, and the width of each.
@@ -17,14 +18,15 @@ pub struct Listing {
     pub widths: [u8; 32],
 }
 
-// How many columns a version's record has. A version has the first of its family's columns, so they are passed from the last one on: of the newest
-// version one is looked at.
-pub fn columns(f: Family, v: Version) -> usize
+// How many columns a version's record has, by the table that is lent. A version has the first of its family's columns, so they are passed from the last one on:
+// of the newest version one is looked at.
+fn had(all: &[u16], f: Family, v: Version) -> usize
+    requires { ⌜ map columnOf (now all) ≡ table ⌝ }
     ensures { λ r. ⌜ (r ≡ length (widthsOf f v)) × (r ≤ 32) ⌝ }
 {
     let mut n = f.count();
     while 0 < n {
-        let c = nth(f, n - 1);
+        let c = column_of(all[f.first() + (n - 1)]);
         if v.gte(c.major, c.minor) {
             return n;
         }
@@ -33,17 +35,25 @@ pub fn columns(f: Family, v: Version) -> usize
     0
 }
 
+pub fn columns(f: Family, v: Version) -> usize
+    ensures { λ r. ⌜ (r ≡ length (widthsOf f v)) × (r ≤ 32) ⌝ }
+{
+    let all = COLUMNS;
+    had(&all, f, v)
+}
+
 pub fn widths(f: Family, v: Version) -> Listing
     ensures { λ r. ⌜ Widths f v (r .count) (r .bytes) (r .widths) ⌝ }
 {
-    let count = columns(f, v);
+    let all = COLUMNS;
+    let count = had(&all, f, v);
     let mut widths = [0u8; 32];
     let mut bytes: usize = 0;
     let mut i: usize = 0;
     while i < count {
-        let w = width_of(f, i);
-        widths[i] = w;
-        bytes += wire::wide(w);
+        let c = column_of(all[f.first() + i]);
+        widths[i] = c.width;
+        bytes += wire::wide(c.width);
         i += 1;
     }
     Listing {

@@ -1,15 +1,17 @@
 // What a column is called and what its cells are, beside its width and its first version.
 ghost use mathlib.Core.Path.{_≡_};
 ghost use Prim.Native.Nat.{_<_, _≤_};
-ghost use lib.ListN.{length};
-ghost use Rattle.layout.specs.Columns.{columnsOf};
+ghost use lib.ListN.{length, getD};
+ghost use Rattle.layout.specs.Columns.{col, columnsOf};
 ghost use Rattle.names.specs.Inner.{line, calledAs, calledOf};
 ghost use Rattle.names.specs.Names.{noColumn, described};
 use crate::lines::line_end;
 use crate::lines::line_start;
 use format::refusal::OUT_OF_RANGE;
+use layout::columns::COLUMNS;
+use layout::columns::Column;
 use layout::columns::Family;
-use layout::columns::nth;
+use layout::columns::column_of;
 
 // The columns of each family, in the order of its record, a line for each: u, i or f, as it is unsigned, signed or a float, and its name.
 const PRE: [u8; 276] = *b"u random_seed
@@ -151,6 +153,15 @@ fn of_family(f: Family, n: usize) -> Called
         Family::DreamlandWhispy => on_line(&DREAMLAND_WHISPY, n),
         Family::StadiumTransformation => on_line(&STADIUM_TRANSFORMATION, n),
     }
+}
+
+// The same by the one table: its width and first version.
+fn nth(f: Family, n: usize) -> Column
+    requires { ⌜ n < length (columnsOf f) ⌝ }
+    ensures { λ r. ⌜ r ≡ getD (columnsOf f) n (col 0 0 0) ⌝ }
+{
+    let all = COLUMNS;
+    column_of(all[f.first() + n])
 }
 
 // No column.

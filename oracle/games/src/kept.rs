@@ -10,20 +10,24 @@ pub fn rows(case: &Case) -> Vec<usize> {
 	(0..case.ids.len()).filter(|row| last[&case.ids[*row]] == *row).collect()
 }
 
-/// The game of these rows: only its frames and their stores are others.
+/// The game of these rows.
 pub fn game(case: &Case) -> Case {
-	let rows = rows(case);
-	let mut kept = Case { name: format!("{}, final frames", case.name), ..case.clone() };
+	Case { name: format!("{}, final frames", case.name), ..of_rows(case, &rows(case)) }
+}
+
+/// A game of some rows: only its frames and their stores are others.
+pub fn of_rows(case: &Case, rows: &[usize]) -> Case {
+	let mut kept = case.clone();
 	for store in [&mut kept.ids, &mut kept.starts, &mut kept.pres, &mut kept.posts, &mut kept.ends] {
-		gather(store, case.ids.len(), &rows);
+		gather(store, case.ids.len(), rows);
 	}
 	let counts = &mut kept.game.frames.counts;
-	gather_by(&mut kept.item_offsets, &mut kept.items, &mut counts.items, &rows);
-	gather_by(&mut kept.fod_offsets, &mut kept.fods, &mut counts.fods, &rows);
-	gather_by(&mut kept.whispy_offsets, &mut kept.whispys, &mut counts.whispys, &rows);
-	gather_by(&mut kept.stadium_offsets, &mut kept.stadiums, &mut counts.stadiums, &rows);
+	gather_by(&mut kept.item_offsets, &mut kept.items, &mut counts.items, rows);
+	gather_by(&mut kept.fod_offsets, &mut kept.fods, &mut counts.fods, rows);
+	gather_by(&mut kept.whispy_offsets, &mut kept.whispys, &mut counts.whispys, rows);
+	gather_by(&mut kept.stadium_offsets, &mut kept.stadiums, &mut counts.stadiums, rows);
 	counts.frames = rows.len();
-	gather_presence(&mut kept, &rows);
+	gather_presence(&mut kept, rows);
 	kept
 }
 

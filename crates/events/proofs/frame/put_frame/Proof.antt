@@ -2,58 +2,42 @@
 -- Assumes nothing.
 use native.Mathlib.Omega.{arith}
 use borrow.Author.Needs.{needs}
-use Rattle.wire.proofs.Writers.{room-first, room-second}
-use Rattle.events.specs.Inner.{frameBytes}
-use Rattle.events.proofs.Laws.{frame-wrote}
+use Rattle.events.proofs.Laws.{start-room, pre-room, middle-room, post-room, end-room, frame-wrote}
 use Rattle.events.proofs.frame.put_frame.Statement.{statement}
 use Rattle.events.proofs.frame.put_frame.Tie as tie
 
 put-one-requires : tie.Need-put-one-requires
-unfolding frameBytes
 put-one-requires c κs =
     let s = c .before .before .before .before .before .before .before .before .before .before .before .before .before .before .before .before .before in
     let g = s .pre .0 .start in
-    let r1 = s .pre .2 in
-    (g .laid, omega (arith, g .rows, s .pre .1), room-first _ r1)
+    (g .laid, omega (arith, g .rows, s .pre .1), start-room _ _ _ _ (s .pre .2))
 
 put-players-requires : tie.Need-put-players-requires
-unfolding frameBytes
 put-players-requires c κs =
     let c1 = c .before .before .before in
     let s = c1 .before .before .before .before .before .before .before .before .before .before .before .before .before .before .before .before .before .before in
     let g = s .pre .0 .pre in
-    let r1 = s .pre .2 in
-    let r2 = room-second r1 (c1 .put-one .ensures) in
-    (g .laid, s .pre .0 .seats, omega (arith, g .rows, s .pre .1), omega (arith, g .rows, s .pre .0 .frames), room-first _ r2)
+    (g .laid, s .pre .0 .seats, omega (arith, g .rows, s .pre .1), omega (arith, g .rows, s .pre .0 .frames), pre-room _ _ _ _ (s .pre .2) (c1 .put-one .ensures))
 
-put-middle-requires : tie.Need-put-middle-requires
-unfolding frameBytes
-put-middle-requires c κs =
+put-between-requires : tie.Need-put-between-requires
+put-between-requires c κs =
     let c2 = c .before .before .before in
     let c1 = c2 .before .before .before .before in
     let s = c1 .before .before .before .before .before .before .before .before .before .before .before .before .before .before .before .before .before .before in
     let g = s .pre .0 in
-    let r1 = s .pre .2 in
-    let r2 = room-second r1 (c1 .put-one .ensures) in
-    let r3 = room-second r2 (c2 .put-players .ensures) in
-    ((g .fod, g .whispy, g .stadium, g .item), s .pre .1, room-first _ r3)
+    ((g .fod, g .whispy, g .stadium, g .item), s .pre .1, middle-room _ _ _ _ (s .pre .2) (c1 .put-one .ensures) (c2 .put-players .ensures))
 
 put-players-requires-2 : tie.Need-put-players-requires-2
-unfolding frameBytes
 put-players-requires-2 c κs =
     let c3 = c .before .before .before in
     let c2 = c3 .before .before .before .before in
     let c1 = c2 .before .before .before .before in
     let s = c1 .before .before .before .before .before .before .before .before .before .before .before .before .before .before .before .before .before .before in
     let g = s .pre .0 .post in
-    let r1 = s .pre .2 in
-    let r2 = room-second r1 (c1 .put-one .ensures) in
-    let r3 = room-second r2 (c2 .put-players .ensures) in
-    let r4 = room-second r3 (c3 .put-middle .ensures) in
-    (g .laid, s .pre .0 .seats, omega (arith, g .rows, s .pre .1), omega (arith, g .rows, s .pre .0 .frames), room-first _ r4)
+    let room = post-room _ _ _ _ (s .pre .2) (c1 .put-one .ensures) (c2 .put-players .ensures) (c3 .put-between .ensures) in
+    (g .laid, s .pre .0 .seats, omega (arith, g .rows, s .pre .1), omega (arith, g .rows, s .pre .0 .frames), room)
 
 put-one-requires-2 : tie.Need-put-one-requires-2
-unfolding frameBytes
 put-one-requires-2 c κs =
     let c4 = c .before .before .before in
     let c3 = c4 .before .before .before .before in
@@ -61,12 +45,7 @@ put-one-requires-2 c κs =
     let c1 = c2 .before .before .before .before in
     let s = c1 .before .before .before .before .before .before .before .before .before .before .before .before .before .before .before .before .before .before in
     let g = s .pre .0 .end in
-    let r1 = s .pre .2 in
-    let r2 = room-second r1 (c1 .put-one .ensures) in
-    let r3 = room-second r2 (c2 .put-players .ensures) in
-    let r4 = room-second r3 (c3 .put-middle .ensures) in
-    let r5 = room-second r4 (c4 .put-players2 .ensures) in
-    (g .laid, omega (arith, g .rows, s .pre .1), r5)
+    (g .laid, omega (arith, g .rows, s .pre .1), end-room _ _ _ _ (s .pre .2) (c1 .put-one .ensures) (c2 .put-players .ensures) (c3 .put-between .ensures) (c4 .put-players2 .ensures))
 
 same-length : tie.Need-same-length
 same-length c =
@@ -75,7 +54,7 @@ same-length c =
     let c3 = c4 .before .before .before .before in
     let c2 = c3 .before .before .before .before in
     let c1 = c2 .before .before .before .before in
-    omega (arith, c1 .put-one .kept .0, c2 .put-players .kept .0, c3 .put-middle .kept .0, c4 .put-players2 .kept .0, c5 .put-one2 .kept .0)
+    omega (arith, c1 .put-one .kept .0, c2 .put-players .kept .0, c3 .put-between .kept .0, c4 .put-players2 .kept .0, c5 .put-one2 .kept .0)
 
 returns : tie.Need-returns
 returns c =
@@ -84,7 +63,7 @@ returns c =
     let c3 = c4 .before .before .before .before in
     let c2 = c3 .before .before .before .before in
     let c1 = c2 .before .before .before .before in
-    frame-wrote _ _ _ _ (c1 .put-one .ensures) (c2 .put-players .ensures) (c3 .put-middle .ensures) (c4 .put-players2 .ensures) (c5 .put-one2 .ensures)
+    frame-wrote _ _ _ _ (c1 .put-one .ensures) (c2 .put-players .ensures) (c3 .put-between .ensures) (c4 .put-players2 .ensures) (c5 .put-one2 .ensures)
 
 pub put-frame-spec : {M : Type 1} → statement M
 put-frame-spec =
@@ -94,7 +73,7 @@ put-frame-spec =
     (λ c. search needs)
     put-one-requires
     put-players-requires
-    put-middle-requires
+    put-between-requires
     put-players-requires-2
     put-one-requires-2
     same-length
