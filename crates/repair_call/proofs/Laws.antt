@@ -192,7 +192,7 @@ judged-found f spans j (held o l e t a) z m q = found o (j .stop) l q
 
 -- ---- the output
 
-open-head : (f : List ℕ) → openRefusal f ≡ 0 → headRefusal (zeroed f) ≡ 0
+pub open-head : (f : List ℕ) → openRefusal f ≡ 0 → headRefusal (zeroed f) ≡ 0
 unfolding openRefusal lowest
 open-head f e = go (eqb (headRefusal (zeroed f)) 0) refl _ e
   where
@@ -269,8 +269,7 @@ module _ (f given : List ℕ) (m : Repaired) where
         let b = h .longest .begins in
         let e = place-is in
         let n = repaired-length f p (above .1) (b .within) in
-        let r : p + cond (keepsTail f p) (length f - p) 1 ≤ length given = omega (arith, long-is, n) in
-        (
+        let r : p + cond (keepsTail f p) (length f - p) 1 ≤ length given = omega (arith, long-is, n) in (
           record { above = omega (arith, above .0); within = omega (arith, b .within); low = omega (arith, b .short); room = omega arith },
           subst (λ (k : ℕ). k + cond (not (eqb (m .tail) 2)) (length f - k) 1 ≤ length given) (sym e) (subst (λ (c : Bool). p + cond c (length f - p) 1 ≤ length given) (sym own-so) r),
         )

@@ -40,7 +40,6 @@ zeroed-length : (f : List ℕ) → length (zeroed f) ≡ length f
 unfolding zeroed
 zeroed-length f = length-splice f 11 (0 ∷ 0 ∷ 0 ∷ 0 ∷ [])
 
-
 abbrev topBy : Head → Top
 topBy h = record { refusal = h .refusal; first = h .first }
 
@@ -62,13 +61,13 @@ top-none f spans l =
 
 -- ---- the first 271 bytes of a longer one
 
-take-take : (m n : ℕ) (l : List ℕ) → m ≤ n → take m (take n l) ≡ take m l
+pub take-take : (m n : ℕ) (l : List ℕ) → m ≤ n → take m (take n l) ≡ take m l
 take-take zero n l h = refl
 take-take (suc m) zero l h = absurd (omega arith)
 take-take (suc m) (suc n) [] h = refl
 take-take (suc m) (suc n) (x ∷ l) h = ap (λ (k : List ℕ). x ∷ k) (take-take m n l (omega arith))
 
-drop-take : (m n : ℕ) (l : List ℕ) → drop m (take (m + n) l) ≡ take n (drop m l)
+pub drop-take : (m n : ℕ) (l : List ℕ) → drop m (take (m + n) l) ≡ take n (drop m l)
 drop-take zero n l = let e : 0 + n ≡ n = omega arith in ap (λ (k : ℕ). take k l) e
 drop-take (suc m) n l = let e : suc m + n ≡ suc (m + n) = omega arith in ap (λ (k : ℕ). drop (suc m) (take k l)) e ∙ go l (λ k. drop-take m n k)
   where
@@ -80,7 +79,7 @@ drop-take (suc m) n l = let e : suc m + n ≡ suc (m + n) = omega arith in ap (�
     go [] more = nothing n
     go (x ∷ l) more = more l
 
-entries-take : (k m : ℕ) (bs : List ℕ) → 3 * k ≤ m → entriesIn k (take m bs) ≡ entriesIn k bs
+pub entries-take : (k m : ℕ) (bs : List ℕ) → 3 * k ≤ m → entriesIn k (take m bs) ≡ entriesIn k bs
 unfolding entriesIn part
 entries-take zero m bs h = refl
 entries-take (suc k) zero bs h = absurd (omega arith)

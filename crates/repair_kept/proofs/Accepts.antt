@@ -177,7 +177,8 @@ module _ (v : Version) (g spans : List ℕ) (q : ℕ) where
 
       past : (c : Bool) → More
           → isSome (cond c (cond (closed v s) (some at) none) (onFamily (familyOf (getD g at 0)) (λ family. cond (takes v ascending g spans q s at family) (scan v ascending g spans q n (at + spanAt spans g at) (after s family (saidAt g at))) none) (cond (closed v s) (some at) none)))
-          ≡ isSome (cond c (cond (closed v s) (some t) none) (onFamily (familyOf (getD g at 0)) (λ family. cond (takes v ascending g spans q s at family) (tallied v ascending g spans q n (at + spanAt spans g at) (after s family (saidAt g at)) (countedOf t (s .rank) (s .id) family (saidAt g at))) none) (cond (closed v s) (some t) none)))
+          ≡ isSome (cond c (cond (closed v s) (some t) none) (onFamily (familyOf (getD g at 0))
+          (λ family. cond (takes v ascending g spans q s at family) (tallied v ascending g spans q n (at + spanAt spans g at) (after s family (saidAt g at)) (countedOf t (s .rank) (s .id) family (saidAt g at))) none) (cond (closed v s) (some t) none)))
       past true more = here (closed v s)
       past false more = kind (familyOf (getD g at 0)) more
 

@@ -16,7 +16,7 @@ use Rattle.wire.proofs.Laws.{length-splice, splice-is, length-be, get-put}
 use Rattle.format.specs.Event.{signature}
 use Rattle.format.specs.Refusal.{refuse, lowest}
 use Rattle.head.specs.Table.{startsWith, declared, stopOf, allPresent, entriesIn, tableOf, firstPlace, spanOf, codeTwice, tableMissing, unsigned, untabled, headRefusal}
-use Rattle.head.proofs.Filled.{zero-data, whole-data}
+use Rattle.head.proofs.Filled.{zero-data, whole-data, stop-within}
 use Rattle.head.proofs.Heads.{table-there, first-by-size, too-short}
 use Rattle.de.specs.Cut.{zeroed}
 use Rattle.grammar.specs.WellFormed.{Each}
@@ -191,6 +191,21 @@ module _ (f : List ℕ) (long : 15 ≤ length f) where
 pub long-enough : (f : List ℕ) → headRefusal (zeroed f) ≡ 0 → 15 ≤ length f
 unfolding zeroed
 long-enough f e = let l = signed-long (zeroed f) (heads-are (zeroed f) e .signed) in omega (arith, length-splice f 11 (0 ∷ 0 ∷ 0 ∷ 0 ∷ []))
+
+-- a head that is accepted with its length is accepted without
+pub zeroed-accepted : (f : List ℕ) → headRefusal f ≡ 0 → headRefusal (zeroed f) ≡ 0
+zeroed-accepted f e =
+    let h = heads-are f e in
+    let long = signed-long f (h .signed) in
+    let t = table-there f (h .there) in
+    let stop = zero-stop f long in
+    let within = stop-within f in
+    heads-so (zeroed f)
+    (record {
+      signed = zero-unsigned f long ∙ h .signed;
+      there = missing-not f (zeroed f) (zero-tail f long) (h .there) (omega (arith, t .0)) (omega (arith, t .2));
+      once = ap codeTwice (zero-table f long) ∙ h .once;
+    })
 
 module _ (f : List ℕ) (accepted : headRefusal (zeroed f) ≡ 0) where
   abbrev long : 15 ≤ length f

@@ -129,7 +129,8 @@ module _ (v : Version) (f spans : List ℕ) (stop : ℕ) where
       kind (some family) n l more = step family (takes v ascending f spans stop s at family) refl n l more
 
       past : (c : Bool) (n : ℕ) → n ≤ stop → More
-          → Between at (cond c (reach at n) (onFamily (familyOf (getD f at 0)) (λ family. cond (takes v ascending f spans stop s at family) (reached v f spans stop m (at + spanAt spans f at) (after s family (saidAt f at)) (countedOf t (s .rank) (s .id) family (saidAt f at)) n) (reach at n)) (reach at n)))
+          → Between at (cond c (reach at n) (onFamily (familyOf (getD f at 0))
+          (λ family. cond (takes v ascending f spans stop s at family) (reached v f spans stop m (at + spanAt spans f at) (after s family (saidAt f at)) (countedOf t (s .rank) (s .id) family (saidAt f at)) n) (reach at n)) (reach at n)))
       past true n l more = (l, omega arith)
       past false n l more = kind (familyOf (getD f at 0)) n l more
 

@@ -185,7 +185,7 @@ module _ (v : Version) (f g spans : List ℕ) (same : drop 15 f ≡ drop 15 g) (
       let span = span-same f g same spans at h in
       let said = said-same f g same at h in
       let e : reached v f spans stop (suc m) at s t b
-          ≡ reached v f spans stop m (at + spanAt spans g at) (after s family (saidAt g at)) (countedOf t (s .rank) (s .id) family (saidAt g at)) (cond (rests v s t at) at b) =
+      ≡ reached v f spans stop m (at + spanAt spans g at) (after s family (saidAt g at)) (countedOf t (s .rank) (s .id) family (saidAt g at)) (cond (rests v s t at) at b) =
       rw (lt-leb stop at l, is, took) (λ i. reached v f spans stop m (at + span i) (after s family (said i)) (countedOf t (s .rank) (s .id) family (said i)) (cond (rests v s t at) at b)) in
       (omega (arith, ap (λ (x : Reached). x .best) e), λ n. e ∙ here n)
 
@@ -215,7 +215,9 @@ module _ (v : Version) (f g spans : List ℕ) (same : drop 15 f ≡ drop 15 g) (
 
       past : (c : Bool) → leb q at ≡ c
           → cond c (cond (closed v s) (some at) none) (onFamily (familyOf (getD g at 0)) (λ family. cond (takes v ascending g spans q s at family) (scan v ascending g spans q n (at + spanAt spans g at) (after s family (saidAt g at))) none) (cond (closed v s) (some at) none)) ≡ some last
-          → cond c (cond (closed v s) (some t) none) (onFamily (familyOf (getD g at 0)) (λ family. cond (takes v ascending g spans q s at family) (tallied v ascending g spans q n (at + spanAt spans g at) (after s family (saidAt g at)) (countedOf t (s .rank) (s .id) family (saidAt g at))) none) (cond (closed v s) (some t) none)) ≡ some t′
+          → cond c (cond (closed v s) (some t) none) (onFamily (familyOf (getD g at 0))
+          (λ family. cond (takes v ascending g spans q s at family) (tallied v ascending g spans q n (at + spanAt spans g at) (after s family (saidAt g at)) (countedOf t (s .rank) (s .id) family (saidAt g at))) none) (cond (closed v s) (some t) none))
+          ≡ some t′
           → More → Far (suc m) at s t b last
       past true c e d more = ends-here m at s t b last t′ e d fits
       past false c e d more = kind (familyOf (getD g at 0)) refl (leb-false q at c) e d more
@@ -278,6 +280,7 @@ module _ (v : Version) (f g spans : List ℕ) (same : drop 15 f ≡ drop 15 g) (
       scan-here : closed v s ≡ true → (p n : ℕ) → Stops g at p → p < at + n → scan v ascending g spans p n at s ≡ some at
       scan-here c p zero x l = absurd (omega (arith, stops-after x))
       scan-here c p (suc n) x l = scan-now v g spans p n at s c x
+
       count-here : closed v s ≡ true → (p n : ℕ) → Stops g at p → p < at + n → tallied v ascending g spans p n at s t ≡ some t
       count-here c p zero x l = absurd (omega (arith, stops-after x))
       count-here c p (suc n) x l = count-now v g spans p n at s t c x

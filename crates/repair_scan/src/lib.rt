@@ -13,8 +13,8 @@ pub mod rest;
 
 use ends::ends_from;
 use format::version::Version;
-use pass::furthest;
 use outline::answer::Codes;
+use pass::furthest;
 use rest::is_short;
 
 // The ends behind the frames, where a replay may end there.

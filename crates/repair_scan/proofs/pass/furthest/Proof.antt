@@ -33,9 +33,11 @@ returns c =
     let a = c .before .before .before .before .before .before .before .before .before .before .before .before .before .args in
     let l = c .before .before .before .before .before .before .loop in
     let s = c .before .before .before .before .settled in
-    let code = getD (a .file .now) (l .at) 0 in
-    (turn-other (a .v) (a .file .now) (a .spans .now) (a .stop) _ (a .first) (l .m) (l .at) (l .best) (l .tally) (l .inv) (s .result) (s .ensures) (c .before .before .before .before .before .loop-test .taken) code refl
-    (sym (c .before .before .kind-of .ensures) ∙ c .enum-told .given .1), l .inv .asked .under)
+    let code = getD (a .file .now) (l .at) 0 in (
+      turn-other (a .v) (a .file .now) (a .spans .now) (a .stop) _ (a .first) (l .m) (l .at) (l .best) (l .tally) (l .inv) (s .result) (s .ensures) (c .before .before .before .before .before .loop-test .taken) code refl
+          (sym (c .before .before .kind-of .ensures) ∙ c .enum-told .given .1),
+      l .inv .asked .under,
+    )
 
 span-of-requires : tie.Need-span-of-requires Inv-loop μ-loop
 span-of-requires c κs = c .before .before .before .before .before .before .before .before .before .before .before .before .before .before .pre .2
@@ -54,10 +56,12 @@ returns-2 c =
     let code = getD (a .file .now) (l .at) 0 in
     let k = c .before .before .before .before .before .before .k .given in
     let n = c .before .before .before .before .span-of in
-    let e = c .before .before .try-event in
-    (turn-refused (a .v) (a .file .now) (a .spans .now) (a .stop) _ (a .first) (l .m) (l .at) (l .best) (l .tally) (l .inv) (s .result) (s .ensures) (c .before .before .before .before .before .before .before .before .before .before .before .loop-test .taken) code refl (k .0 .0)
-    (sym (c .before .before .before .before .before .before .before .before .kind-of .ensures) ∙ k .1) (n .result) (n .ensures .0)
-    (tried-as (a .v) ascending (a .file .now) _ (a .stop) (l .m) (l .at) (n .result) (k .0 .0) (e .result) Refused (c .enum-told2 .given .1) (e .ensures)), l .inv .asked .under)
+    let e = c .before .before .try-event in (
+      turn-refused (a .v) (a .file .now) (a .spans .now) (a .stop) _ (a .first) (l .m) (l .at) (l .best) (l .tally) (l .inv) (s .result) (s .ensures) (c .before .before .before .before .before .before .before .before .before .before .before .loop-test .taken) code refl (k .0 .0)
+          (sym (c .before .before .before .before .before .before .before .before .kind-of .ensures) ∙ k .1) (n .result) (n .ensures .0)
+          (tried-as (a .v) ascending (a .file .now) _ (a .stop) (l .m) (l .at) (n .result) (k .0 .0) (e .result) Refused (c .enum-told2 .given .1) (e .ensures)),
+      l .inv .asked .under,
+    )
 
 counted-requires : tie.Need-counted-requires Inv-loop μ-loop
 counted-requires c κs =

@@ -1,0 +1,1 @@
+// That what is repaired is accepted: laws, no code.
