@@ -589,8 +589,8 @@ typedef struct {
 /* ======== writing ======== */
 
 typedef struct {
-	uint8_t refused;   /* 0, or 1 to 12; final frames: also 13 */
-	size_t len;        /* the file's length; 0 on a refusal */
+	uint8_t refused;   /* 0, or of a game 1 to 12, of final frames 1 to 11, 13 or 12, of a map 20 to 23, 2 or 12, each judged in that order */
+	size_t len;        /* the length of the file, or of the map's body; 0 on a refusal */
 } slp_written;
 
 /* The replay file of a game, at the start of `out`; bytes past the file stay.
@@ -1229,7 +1229,7 @@ slp_stadium_transformation_answer slp_stadium_transformation_row(slp_frames fram
 /* ---- many rows, judged once */
 
 typedef struct {
-	uint8_t refused;   /* 0, or 1 to 7, 12, 13 */
+	uint8_t refused;   /* 0, or 1 to 7, 13 or 12, judged in that order */
 	size_t len;        /* how many cells were put; 0 on a refusal */
 } slp_run;
 

@@ -12,7 +12,7 @@ use Rattle.game.specs.declared.Game.{Game}
 use Rattle.codes.specs.Blocks.{codeEvents}
 use Rattle.ending.specs.End.{endEvents}
 use Rattle.ending.specs.Tail.{tailOf}
-use Rattle.ser.specs.Write.{entries, startEvent, events, file, judged}
+use Rattle.ser.specs.Write.{entries, gameStartEvent, events, file, judged}
 use Rattle.ser.proofs.Outcomes.{passes}
 use Rattle.final_frames.specs.Rows.{framesAt}
 use Rattle.final_frames.specs.Final.{finalGame, finalStores}
@@ -23,7 +23,7 @@ counted-own : (g : Game) (s : Stores) → length (s .lent .cells .ids) ≡ g .fr
 unfolding file events finalGame finalStores framesAt
 counted-own g s n clear =
     ap (λ (es : List Ev). fileOf (entries g s)
-    (startEvent g s ∷ (codeEvents (yes (g .«codes_given»)) (s .codes) (g .«actual_size») ++ (es ++ endEvents (g .frames .version) (g .end) (g .«double_end»))))
+    (gameStartEvent g s ∷ (codeEvents (yes (g .«codes_given»)) (s .codes) (g .«actual_size») ++ (es ++ endEvents (g .frames .version) (g .end) (g .«double_end»))))
     (tailOf (yes (g .«metadata_given»)) (s .metadata)))
     (own-frames (g .frames) (s .lent) n clear)
 

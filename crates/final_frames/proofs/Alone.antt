@@ -7,15 +7,16 @@ use Prim.Native.Nat.{ℕ, zero, suc, _<_}
 use native.Mathlib.Omega.{arith}
 use lib.Dec.{eqb}
 use lib.ListN.{length, getD, drop, replicate, length-map, length-replicate, getD-replicate}
+use Rattle.format.specs.Mark.{markIf}
 use Rattle.wire.specs.Wire.{ranged, keep}
 use Rattle.wire.proofs.Laws.{ranged-same, tabulated}
 use Rattle.game.specs.Stores.{Lent}
 use Rattle.game.specs.declared.frames.Frames.{Frames}
 use Rattle.events.specs.Events.{frameEvents, framesEvents}
-use Rattle.rollback.specs.Mask.{occurs, asByte, repeats, maskOf}
+use Rattle.rollback.specs.Mask.{occurs, repeats, maskOf}
 use Rattle.rollback.specs.declared.frame.Rollbacks.the-variants.{ExceptLast}
 use Rattle.final_frames.specs.Rows.{framesAt, lentAt}
-use Rattle.final_frames.specs.Final.{kept, finalFrames, finalLent}
+use Rattle.final_frames.specs.Final.{keptRows, finalFrames, finalLent}
 use Rattle.final_frames.proofs.Final.{isKept, final-events}
 use Rattle.final_frames.proofs.Once.{NoneTwice, ids-once}
 
@@ -33,7 +34,7 @@ once-clear : (ids : List ℕ) → NoneTwice ids → Clear ids
 unfolding maskOf
 once-clear ids n =
     sym (tabulated 0 (replicate (length ids) 0) (length ids) (repeats ExceptLast ids) (length-replicate (length ids) 0)
-    (λ i l. getD-replicate (length ids) i 0 0 l ∙ sym (ap asByte (alone ids n i l))))
+    (λ i l. getD-replicate (length ids) i 0 0 l ∙ sym (ap markIf (alone ids n i l))))
 
 -- of the final frames none is
 pub final-clear : (f : Frames) (s : Lent) → Clear (finalLent f s .cells .ids)
@@ -41,7 +42,7 @@ final-clear f s = once-clear (finalLent f s .cells .ids) (ids-once f s)
 
 pub final-counted : (f : Frames) (s : Lent) → length (finalLent f s .cells .ids) ≡ finalFrames f s .counts .frames
 unfolding framesAt lentAt
-final-counted f s = length-map (kept (s .cells .ids)) (λ i. getD (s .cells .ids) i 0)
+final-counted f s = length-map (keptRows (s .cells .ids)) (λ i. getD (s .cells .ids) i 0)
 
 all-kept : {A : Type 0} (b : Bool) (xs : List A) → b ≡ true → keep b xs ≡ xs
 unfolding keep

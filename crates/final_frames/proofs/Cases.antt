@@ -20,7 +20,7 @@ use Rattle.events.specs.Events.{frameEvents, framesEvents, oneEvent, rowEvents,
 use Rattle.rollback.specs.Mask.{occurs, maskOf}
 use Rattle.columns.specs.Columns.{totals, bitsFrom}
 use Rattle.final_frames.specs.Rows.{gather, rowsAt, offsetsAt, packed, presenceAt, framesAt, lentAt}
-use Rattle.final_frames.specs.Final.{kept, finalFrames, finalLent}
+use Rattle.final_frames.specs.Final.{keptRows, finalFrames, finalLent}
 use Rattle.final_frames.proofs.Gather.{each}
 use Rattle.final_frames.proofs.Events.{frames-are}
 use Rattle.frames.proofs.Opens.{opens-refusals, opens-slots}
@@ -49,8 +49,8 @@ four = record {
 abbrev fourLent : Lent
 fourLent = lent (cells fourIds [] (cellsTo 56) (cellsTo 44) [] [] [] [] []) (offsets [] [] [] []) (0xfb ∷ [])
 
-four-kept : kept fourIds ≡ 0 ∷ 2 ∷ 3 ∷ []
-unfolding kept maskOf tabulate occurs ranged keep
+four-kept : keptRows fourIds ≡ 0 ∷ 2 ∷ 3 ∷ []
+unfolding keptRows maskOf tabulate occurs ranged keep
 four-kept = refl
 
 four-gathered :
@@ -60,17 +60,17 @@ four-gathered :
     × (drop 39 (finalLent four fourLent .cells .pres) ≡ 52 ∷ 54 ∷ 55 ∷ [])
     × (length (finalLent four fourLent .cells .posts) ≡ 33)
     × (finalLent four fourLent .presence ≡ 5 ∷ [])
-unfolding opens-slots framesAt lentAt kept maskOf occurs ranged keep gather rowsAt offsetsAt totals packed bitsFrom presenceAt marked hasFamily columnsOf chosen above gteOf
+unfolding opens-slots framesAt lentAt keptRows maskOf occurs ranged keep gather rowsAt offsetsAt totals packed bitsFrom presenceAt marked hasFamily columnsOf chosen above gteOf
 four-gathered = (refl, refl, refl, refl, refl, refl)
 
 -- both are accepted; frame 2 is kept and has no events
 four-accepted : (lowest (refusals four fourLent 0 0) ≡ 0) × (lowest (refusals (finalFrames four fourLent) (finalLent four fourLent) 0 0) ≡ 0)
-unfolding opens-refusals framesAt lentAt kept maskOf occurs ranged gather rowsAt offsetsAt totals packed bitsFrom presenceAt marked
+unfolding opens-refusals framesAt lentAt keptRows maskOf occurs ranged gather rowsAt offsetsAt totals packed bitsFrom presenceAt marked
 four-accepted = (refl, refl)
 
 four-events : framesEvents (finalFrames four fourLent) (finalLent four fourLent) ≡ frameEvents four fourLent 0 ++ (frameEvents four fourLent 2 ++ (frameEvents four fourLent 3 ++ []))
 unfolding each
-four-events = frames-are four fourLent (kept fourIds) ∙ ap (each (frameEvents four fourLent)) four-kept
+four-events = frames-are four fourLent (keptRows fourIds) ∙ ap (each (frameEvents four fourLent)) four-kept
 
 four-lengths :
     (length (eventsBytes (frameEvents four fourLent 0)) ≡ 93)
@@ -99,8 +99,8 @@ tenLent =
     (offsets (0 ∷ 0 ∷ 1 ∷ 1 ∷ 1 ∷ 1 ∷ 2 ∷ 2 ∷ 2 ∷ 2 ∷ 4 ∷ []) (0 ∷ 1 ∷ 1 ∷ 1 ∷ 1 ∷ 1 ∷ 1 ∷ 3 ∷ 3 ∷ 3 ∷ 3 ∷ []) (0 ∷ 0 ∷ 0 ∷ 0 ∷ 0 ∷ 0 ∷ 0 ∷ 1 ∷ 2 ∷ 2 ∷ 2 ∷ []) (replicate 11 0))
     (0xff ∷ 0x03 ∷ 0xaa ∷ 0x02 ∷ [])
 
-ten-kept : kept tenIds ≡ 0 ∷ 1 ∷ 2 ∷ 3 ∷ 4 ∷ 7 ∷ 8 ∷ 9 ∷ []
-unfolding kept maskOf tabulate occurs ranged keep
+ten-kept : keptRows tenIds ≡ 0 ∷ 1 ∷ 2 ∷ 3 ∷ 4 ∷ 7 ∷ 8 ∷ 9 ∷ []
+unfolding keptRows maskOf tabulate occurs ranged keep
 ten-kept = refl
 
 ten-gathered :
@@ -115,11 +115,11 @@ ten-gathered :
     × (finalLent ten tenLent .cells .fods ≡ 10 ∷ 20 ∷ [])
     × (finalLent ten tenLent .cells .whispys ≡ 31 ∷ [])
     × (finalLent ten tenLent .cells .starts ≡ 0 ∷ 1 ∷ 2 ∷ 3 ∷ 4 ∷ 7 ∷ 8 ∷ 9 ∷ 10 ∷ 11 ∷ 12 ∷ 13 ∷ 14 ∷ 17 ∷ 18 ∷ 19 ∷ [])
-unfolding opens-slots framesAt lentAt kept maskOf occurs ranged keep gather rowsAt offsetsAt totals packed bitsFrom presenceAt marked hasFamily columnsOf chosen above gteOf
+unfolding opens-slots framesAt lentAt keptRows maskOf occurs ranged keep gather rowsAt offsetsAt totals packed bitsFrom presenceAt marked hasFamily columnsOf chosen above gteOf
 ten-gathered = (refl, refl, refl, refl, refl, refl, refl, refl, refl, refl, refl)
 
 ten-sizes : (length (finalLent ten tenLent .cells .pres) ≡ 456) × (length (finalLent ten tenLent .cells .posts) ≡ 768) × (length (finalLent ten tenLent .cells .items) ≡ 48)
-unfolding opens-slots framesAt lentAt kept maskOf occurs ranged keep gather rowsAt offsetsAt totals packed bitsFrom presenceAt marked hasFamily columnsOf chosen above gteOf
+unfolding opens-slots framesAt lentAt keptRows maskOf occurs ranged keep gather rowsAt offsetsAt totals packed bitsFrom presenceAt marked hasFamily columnsOf chosen above gteOf
 ten-sizes = (refl, refl, refl)
 
 -- ---- an id three times, with items each time: ids 7 8 7 7 at 3.0.0 have 1, 2, 3 and 2 items; rows 1 and 3 are final, with items 1, 2, 6 and 7
@@ -139,16 +139,16 @@ thriceLent =
     []
 
 thrice-gathered :
-    (kept (7 ∷ 8 ∷ 7 ∷ 7 ∷ []) ≡ 1 ∷ 3 ∷ [])
+    (keptRows (7 ∷ 8 ∷ 7 ∷ 7 ∷ []) ≡ 1 ∷ 3 ∷ [])
     × (finalFrames thrice thriceLent .counts ≡ record { frames = 2; items = 4; fods = 0; whispys = 0; stadiums = 0 })
     × (finalLent thrice thriceLent .cells .ids ≡ 8 ∷ 7 ∷ [])
     × (finalLent thrice thriceLent .offsets .items ≡ 0 ∷ 2 ∷ 4 ∷ [])
     × (finalLent thrice thriceLent .offsets .fods ≡ [])
     × (take 8 (finalLent thrice thriceLent .cells .items) ≡ 1 ∷ 2 ∷ 6 ∷ 7 ∷ 9 ∷ 10 ∷ 14 ∷ 15 ∷ [])
     × (finalLent thrice thriceLent .presence ≡ [])
-unfolding opens-slots framesAt lentAt kept maskOf occurs ranged keep gather rowsAt offsetsAt totals packed bitsFrom presenceAt marked hasFamily columnsOf chosen above gteOf
+unfolding opens-slots framesAt lentAt keptRows maskOf occurs ranged keep gather rowsAt offsetsAt totals packed bitsFrom presenceAt marked hasFamily columnsOf chosen above gteOf
 thrice-gathered = (refl, refl, refl, refl, refl, refl, refl)
 
 thrice-accepted : (lowest (refusals thrice thriceLent 0 0) ≡ 0) × (lowest (refusals (finalFrames thrice thriceLent) (finalLent thrice thriceLent) 0 0) ≡ 0)
-unfolding opens-refusals framesAt lentAt kept maskOf occurs ranged gather rowsAt offsetsAt totals packed bitsFrom presenceAt marked
+unfolding opens-refusals framesAt lentAt keptRows maskOf occurs ranged gather rowsAt offsetsAt totals packed bitsFrom presenceAt marked
 thrice-accepted = (refl, refl)

@@ -59,6 +59,10 @@ isMarked slots k = eqb (slots / 2 ^ k % 2) 1
 abbrev pub noSlot : Slot
 noSlot = slot 0 0 0 0
 
+-- the k-th slot
+abbrev pub slotAt : Frames → ℕ → Slot
+slotAt f k = getD (slotsOf f) k noSlot
+
 -- a family's rows, in each of its blocks: Pre and Post have a block for each slot
 abbrev pub rowsOf : Frames → Family → ℕ
 rowsOf f Pre = f .counts .frames

@@ -15,7 +15,7 @@ use Rattle.layout.specs.Payloads.{endSize}
 use Rattle.layout.specs.declared.columns.Family.the-variants.{Pre, Post, FrameStart}
 use Rattle.start.specs.Length.{lengthOf, reached}
 use Rattle.grammar.specs.Productions.{Player, Frame, Replay, rowEvent, endEvent}
-use Rattle.grammar.specs.WellFormed.{Each, ascending, anyhow, nobody, before, mayCome, InOrder, GoodPlayer, GoodFrame, GoodCodes, WellFormed}
+use Rattle.grammar.specs.WellFormed.{Each, ascending, anyhow, nobody, mayPrecede, mayCome, InOrder, GoodPlayer, GoodFrame, GoodCodes, WellFormed}
 use Rattle.grammar.specs.Readable.{Changing, Alike, seatType, Readable}
 use Rattle.grammar.specs.Machine.{familyOf, initial, isNext, closed, inFrame, player, orderly, allowed, dueAfter, onFamily, rest}
 
@@ -37,47 +37,47 @@ abbrev rising : List Ev → Option (List Ev)
 rising es = rest (version 0 1 0) ascending initial es
 
 two-frames : old (pre 5 0 0 ∷ pre 5 1 0 ∷ post 5 0 0 ∷ post 5 1 0 ∷ pre 6 0 0 ∷ post 6 0 0 ∷ over ∷ []) ≡ some (over ∷ [])
-unfolding rest onFamily familyOf allowed orderly closed inFrame player nobody isNext dueAfter mayCome before hasFamily gteOf above columnsOf chosen sum be more
+unfolding rest onFamily familyOf allowed orderly closed inFrame player nobody isNext dueAfter mayCome mayPrecede hasFamily gteOf above columnsOf chosen sum be more
 two-frames = refl
 
 same-id-again : old (pre 5 0 0 ∷ post 5 0 0 ∷ pre 5 0 0 ∷ post 5 0 0 ∷ []) ≡ some []
-unfolding rest onFamily familyOf allowed orderly closed inFrame player nobody isNext dueAfter mayCome before hasFamily gteOf above columnsOf chosen sum be more
+unfolding rest onFamily familyOf allowed orderly closed inFrame player nobody isNext dueAfter mayCome mayPrecede hasFamily gteOf above columnsOf chosen sum be more
 same-id-again = refl
 
 any-order : old (pre 5 3 0 ∷ pre 5 0 0 ∷ pre 5 0 1 ∷ post 5 3 0 ∷ post 5 0 0 ∷ post 5 0 1 ∷ []) ≡ some []
-unfolding rest onFamily familyOf allowed orderly closed inFrame player nobody isNext dueAfter mayCome before hasFamily gteOf above columnsOf chosen sum be more
+unfolding rest onFamily familyOf allowed orderly closed inFrame player nobody isNext dueAfter mayCome mayPrecede hasFamily gteOf above columnsOf chosen sum be more
 any-order = refl
 
 not-rising : rising (pre 5 3 0 ∷ pre 5 0 0 ∷ post 5 3 0 ∷ post 5 0 0 ∷ []) ≡ none
-unfolding rest onFamily familyOf allowed orderly closed inFrame player nobody isNext dueAfter mayCome before hasFamily gteOf above columnsOf chosen sum be more
+unfolding rest onFamily familyOf allowed orderly closed inFrame player nobody isNext dueAfter mayCome mayPrecede hasFamily gteOf above columnsOf chosen sum be more
 not-rising = refl
 
 follower-first : old (pre 5 0 1 ∷ pre 5 0 0 ∷ post 5 0 1 ∷ post 5 0 0 ∷ []) ≡ none
-unfolding rest onFamily familyOf allowed orderly closed inFrame player nobody isNext dueAfter mayCome before hasFamily gteOf above columnsOf chosen sum be more
+unfolding rest onFamily familyOf allowed orderly closed inFrame player nobody isNext dueAfter mayCome mayPrecede hasFamily gteOf above columnsOf chosen sum be more
 follower-first = refl
 
 no-post : old (pre 5 0 0 ∷ over ∷ []) ≡ none
-unfolding rest onFamily familyOf allowed orderly closed inFrame player nobody isNext dueAfter mayCome before hasFamily gteOf above columnsOf chosen sum be more
+unfolding rest onFamily familyOf allowed orderly closed inFrame player nobody isNext dueAfter mayCome mayPrecede hasFamily gteOf above columnsOf chosen sum be more
 no-post = refl
 
 other-id : old (pre 5 0 0 ∷ post 6 0 0 ∷ []) ≡ none
-unfolding rest onFamily familyOf allowed orderly closed inFrame player nobody isNext dueAfter mayCome before hasFamily gteOf above columnsOf chosen sum be more
+unfolding rest onFamily familyOf allowed orderly closed inFrame player nobody isNext dueAfter mayCome mayPrecede hasFamily gteOf above columnsOf chosen sum be more
 other-id = refl
 
 start-too-early : old (rowEvent FrameStart 5 (0 ∷ 0 ∷ 0 ∷ 0 ∷ []) ∷ []) ≡ none
-unfolding rest onFamily familyOf allowed orderly closed inFrame player nobody isNext dueAfter mayCome before hasFamily gteOf above columnsOf chosen sum be more
+unfolding rest onFamily familyOf allowed orderly closed inFrame player nobody isNext dueAfter mayCome mayPrecede hasFamily gteOf above columnsOf chosen sum be more
 start-too-early = refl
 
 follower-apart : old (pre 5 0 0 ∷ pre 5 1 0 ∷ pre 5 0 1 ∷ post 5 0 0 ∷ post 5 1 0 ∷ post 5 0 1 ∷ []) ≡ none
-unfolding rest onFamily familyOf allowed orderly closed inFrame player nobody isNext dueAfter mayCome before hasFamily gteOf above columnsOf chosen sum be more
+unfolding rest onFamily familyOf allowed orderly closed inFrame player nobody isNext dueAfter mayCome mayPrecede hasFamily gteOf above columnsOf chosen sum be more
 follower-apart = refl
 
 follower-alone : old (pre 5 1 0 ∷ pre 5 0 1 ∷ post 5 1 0 ∷ post 5 0 1 ∷ []) ≡ some []
-unfolding rest onFamily familyOf allowed orderly closed inFrame player nobody isNext dueAfter mayCome before hasFamily gteOf above columnsOf chosen sum be more
+unfolding rest onFamily familyOf allowed orderly closed inFrame player nobody isNext dueAfter mayCome mayPrecede hasFamily gteOf above columnsOf chosen sum be more
 follower-alone = refl
 
 twice : old (pre 5 0 0 ∷ pre 5 0 0 ∷ post 5 0 0 ∷ post 5 0 0 ∷ []) ≡ none
-unfolding rest onFamily familyOf allowed orderly closed inFrame player nobody isNext dueAfter mayCome before hasFamily gteOf above columnsOf chosen sum be more
+unfolding rest onFamily familyOf allowed orderly closed inFrame player nobody isNext dueAfter mayCome mayPrecede hasFamily gteOf above columnsOf chosen sum be more
 twice = refl
 
 -- ---- replays

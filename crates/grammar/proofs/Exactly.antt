@@ -20,7 +20,7 @@ use Rattle.layout.specs.Columns.{hasFamily, sizeOf}
 use Rattle.layout.specs.Payloads.{eventOf, recordSize}
 use Rattle.layout.specs.declared.columns.Family.{Family}
 use Rattle.layout.specs.declared.columns.Family.the-variants.{Pre, Post, FrameStart, Item, FrameEnd, FodPlatform, DreamlandWhispy, StadiumTransformation}
-use Rattle.grammar.specs.Productions.{Frame, rowEvent, frameEvents, framesEvents}
+use Rattle.grammar.specs.Productions.{Frame, rowEvent, eventsOfFrame, eventsOfFrames}
 use Rattle.grammar.specs.WellFormed.{nobody, Each, Order, mayCome, GoodFrame}
 use Rattle.grammar.specs.Machine.{familyOf, State, state, initial, slotSaid, idIn, portIn, followerIn, saidBy, isNext, closed, inFrame, player, orderly, allowed, dueAfter, after, onFamily, rest}
 use Rattle.grammar.proofs.Tests.{taken, both, Or, left-is, right-is, either}
@@ -87,7 +87,7 @@ pub record Found (v : Version) (o : Order) (s : State) (es t : List Ev) : Type 0
   pub match : Matched o (s .due) left
   pub good : Each (GoodFrame v o) frames
   pub after-is : NoFrame t
-  pub events-are : es ≡ leftEvents (s .id) left ++ (framesEvents v frames ++ t)
+  pub events-are : es ≡ leftEvents (s .id) left ++ (eventsOfFrames v frames ++ t)
 
 module _ (v : Version) (o : Order) where
   closed-rank : (s : State) → closed v s ≡ true → hasFamily v FrameEnd ≡ true → 8 ≤ s .rank
@@ -98,7 +98,7 @@ module _ (v : Version) (o : Order) where
       omega arith
 
   -- at a closed state nothing is left of the frame
-  between : (s : State) (es t : List Ev) (frames : List Frame) → closed v s ≡ true → Each (GoodFrame v o) frames → NoFrame t → es ≡ framesEvents v frames ++ t → Found v o s es t
+  between : (s : State) (es t : List Ev) (frames : List Frame) → closed v s ≡ true → Each (GoodFrame v o) frames → NoFrame t → es ≡ eventsOfFrames v frames ++ t → Found v o s es t
   unfolding ranged
   between s es t frames c g n q = record {
     left = λ r. [];
@@ -124,14 +124,14 @@ module _ (v : Version) (o : Order) where
       after-is = h .after-is;
       events-are =
           ap₂ (λ (a : Ev) (l : List Ev). a ∷ l) (event-is (familyAt r) e fam big bytes) (h .events-are)
-          ∙ added (idIn e) (h .left) r (body e) (framesEvents v (h .frames) ++ t) 2 7 x (omega arith) (h .shape .gone)
-          ∙ ap (λ (n : ℕ). leftEvents n (add (h .left) r (body e)) ++ (framesEvents v (h .frames) ++ t)) (sym i);
+          ∙ added (idIn e) (h .left) r (body e) (eventsOfFrames v (h .frames) ++ t) 2 7 x (omega arith) (h .shape .gone)
+          ∙ ap (λ (n : ℕ). leftEvents n (add (h .left) r (body e)) ++ (eventsOfFrames v (h .frames) ++ t)) (sym i);
     }
 
   -- the first event of a frame: its start, or a Pre
   opened : (s : State) (e : Ev) (es t : List Ev) → familyOf (e .code) ≡ some FrameStart → 4 ≤ length (e .payload) → Each Byte (e .payload) → hasFamily v FrameStart ≡ true
       → length (body e) ≡ sizeOf FrameStart v → closed v s ≡ true → Found v o (state 1 (idIn e) (s .due)) es t → Found v o s (e ∷ es) t
-  unfolding framesEvents Each keep
+  unfolding eventsOfFrames Each keep
   opened s e es t fam big bytes has size c h =
       let d = closed-due v s c in
       let m = subst (λ (ks : List ℕ). Matched o ks (h .left)) d (h .match) in
@@ -140,14 +140,14 @@ module _ (v : Version) (o : Order) where
       (λ x. let z : _≡_ {A = ℕ} 0 1 = cc in absurd (omega arith)) in
       between s (e ∷ es) t (f ∷ h .frames) c (good, h .good) (h .after-is)
       (ap₂ (λ (a : Ev) (l : List Ev). a ∷ l) (event-is FrameStart e fam big bytes) (h .events-are)
-      ∙ sym (append-assoc (frameEvents v f) (framesEvents v (h .frames)) t
-      ∙ made-events v o 1 (idIn e) (body e) (h .left) (omega arith) (h .shape) m (framesEvents v (h .frames) ++ t)
+      ∙ sym (append-assoc (eventsOfFrame v f) (eventsOfFrames v (h .frames)) t
+      ∙ made-events v o 1 (idIn e) (body e) (h .left) (omega arith) (h .shape) m (eventsOfFrames v (h .frames) ++ t)
       ∙ rw has))
 
   begun : (s : State) (e : Ev) (es t : List Ev) → familyOf (e .code) ≡ some Pre → 4 ≤ length (e .payload) → Each Byte (e .payload) → GoodBody v 2 (body e) → Seated (body e)
       → mayCome o (s .due) (slotAt (body e)) ≡ true → hasFamily v FrameStart ≡ false → closed v s ≡ true → Found v o (state 2 (idIn e) (s .due ++ (slotAt (body e) ∷ []))) es t
       → Found v o s (e ∷ es) t
-  unfolding framesEvents Each keep
+  unfolding eventsOfFrames Each keep
   begun s e es t fam big bytes body-good seated may lacks c h =
       let d = closed-due v s c in
       let left = add (h .left) 2 (body e) in
@@ -157,9 +157,9 @@ module _ (v : Version) (o : Order) where
       let good = made-good v o 2 (idIn e) [] left (omega arith) shape m (payload-is (e .payload) big bytes .1) (sym (no-start v lacks)) (λ x. omega arith) in
       between s (e ∷ es) t (f ∷ h .frames) c (good, h .good) (h .after-is)
       (ap₂ (λ (a : Ev) (l : List Ev). a ∷ l) (event-is Pre e fam big bytes) (h .events-are)
-      ∙ added (idIn e) (h .left) 2 (body e) (framesEvents v (h .frames) ++ t) 2 7 (omega arith) (omega arith) (h .shape .gone)
-      ∙ sym (append-assoc (frameEvents v f) (framesEvents v (h .frames)) t
-      ∙ made-events v o 2 (idIn e) [] left (omega arith) shape m (framesEvents v (h .frames) ++ t)
+      ∙ added (idIn e) (h .left) 2 (body e) (eventsOfFrames v (h .frames) ++ t) 2 7 (omega arith) (omega arith) (h .shape .gone)
+      ∙ sym (append-assoc (eventsOfFrame v f) (eventsOfFrames v (h .frames)) t
+      ∙ made-events v o 2 (idIn e) [] left (omega arith) shape m (eventsOfFrames v (h .frames) ++ t)
       ∙ rw lacks))
 
 -- ---- each event that may come
@@ -248,7 +248,7 @@ module _ (v : Version) (o : Order) (s : State) (e : Ev) (es t : List Ev) (bytes 
           begun v o s e es t fam big bytes good seated may (not-true (hasFamily v FrameStart) a) c h
 
 pub sound : (v : Version) (o : Order) (es : List Ev) → Each (λ e. Each Byte (e .payload)) es → (s : State) (t : List Ev) → rest v o s es ≡ some t → Found v o s es t
-unfolding rest onFamily Each framesEvents
+unfolding rest onFamily Each eventsOfFrames
 sound v o [] b s t q =
     let (c, e) = taken (closed v s) (some []) t q in
     let i = Option·some-injective [] t e in
@@ -272,7 +272,7 @@ pub record Taken (v : Version) (o : Order) (es t : List Ev) : Type 0 where
   pub frames : List Frame
   pub good : Each (GoodFrame v o) frames
   pub after-is : NoFrame t
-  pub events-are : es ≡ framesEvents v frames ++ t
+  pub events-are : es ≡ eventsOfFrames v frames ++ t
 
 at-first : (v : Version) (id : ℕ) (left : Bodies) → Shape v 8 left → leftEvents id left ≡ []
 unfolding ranged
@@ -284,6 +284,6 @@ at-first v id left h =
 pub exactly : (v : Version) (o : Order) (es t : List Ev) → Each (λ e. Each Byte (e .payload)) es → (rest v o initial es ≡ some t) ↔ Taken v o es t
 exactly v o es t b = (
   λ q. let f = sound v o es b initial t q in
-      record { frames = f .frames; good = f .good; after-is = f .after-is; events-are = f .events-are ∙ ap (λ (l : List Ev). l ++ (framesEvents v (f .frames) ++ t)) (at-first v 0 (f .left) (f .shape)) },
+      record { frames = f .frames; good = f .good; after-is = f .after-is; events-are = f .events-are ∙ ap (λ (l : List Ev). l ++ (eventsOfFrames v (f .frames) ++ t)) (at-first v 0 (f .left) (f .shape)) },
   λ h. ap (λ (l : List Ev). rest v o initial l) (h .events-are) ∙ complete v o t (h .after-is) (h .frames) (h .good) initial (closed-last v 0),
 )

@@ -11,7 +11,7 @@ use Rattle.format.specs.File.{Ev}
 use Rattle.format.specs.declared.version.Version.{Version}
 use Rattle.layout.specs.Columns.{hasFamily, sizeOf}
 use Rattle.layout.specs.declared.columns.Family.the-variants.{Pre, Post, FrameStart, Item, FrameEnd, FodPlatform, DreamlandWhispy, StadiumTransformation}
-use Rattle.grammar.specs.Productions.{Player, Frame, rowEvent, preEvent, postEvent, frameEvents}
+use Rattle.grammar.specs.Productions.{Player, Frame, rowEvent, preEvent, postEvent, eventsOfFrame}
 use Rattle.grammar.specs.WellFormed.{Each, Order, slotOf, GoodPlayer, GoodRow, GoodFrame}
 use Rattle.grammar.proofs.Unique.{no-end, frame-then}
 use Rattle.grammar.proofs.Left.{Bodies, leftEvents, GoodBody, Shape, Seated, slotAt, Matched}
@@ -105,7 +105,7 @@ module _ (v : Version) (o : Order) (rank id : ℕ) (start : List ℕ) (left : Bo
   the-end : (keep (hasFamily v FrameEnd) (rowEvent FrameEnd id (headOf (left 8)) ∷ []) ≡ map (rowEvent FrameEnd id) (left 8)) × (length (headOf (left 8)) ≡ sizeOf FrameEnd v)
   the-end = end-is v id (left 8) (h .sized 8) (λ e. h .one e under)
 
-  pub made-events : (t : List Ev) → frameEvents v (made id start left) ++ t ≡ keep (hasFamily v FrameStart) (rowEvent FrameStart id start ∷ []) ++ (leftEvents id left ++ t)
+  pub made-events : (t : List Ev) → eventsOfFrame v (made id start left) ++ t ≡ keep (hasFamily v FrameStart) (rowEvent FrameStart id start ∷ []) ++ (leftEvents id left ++ t)
   unfolding ranged
   made-events t = frame-then v (made id start left) t ∙ rw (players .pres, players .posts, the-end .0) (simp (append-assoc, append-nil))
 

@@ -9,7 +9,7 @@ use borrow.Author.Tests.{ltb-true, ne-eqb}
 use lib.Dec.{ltb, eqb}
 use Rattle.format.specs.declared.version.Version.{Version}
 use Rattle.grammar.specs.Productions.{Frame, Replay}
-use Rattle.grammar.specs.WellFormed.{Each, ascending, anyhow, slotOf, nobody, before, mayCome, InOrder, GoodFrame, WellFormed}
+use Rattle.grammar.specs.WellFormed.{Each, ascending, anyhow, slotOf, nobody, mayPrecede, mayCome, InOrder, GoodFrame, WellFormed}
 use Rattle.grammar.proofs.Each.{each-both, each-one, each-so}
 use Rattle.grammar.proofs.Tests.{both, or-true}
 
@@ -19,14 +19,14 @@ Rising [] = Unit {0}
 Rising (j ∷ js) = Each (λ k. j < k) js × Rising js
 
 rising-more : (seen : List ℕ) (k : ℕ) → Rising seen → mayCome ascending seen k ≡ true → Rising (seen ++ (k ∷ []))
-unfolding Rising mayCome before Each
+unfolding Rising mayCome mayPrecede Each
 rising-more [] k h m = (tt, tt)
 rising-more (j ∷ js) k h m =
     let (a, b) = both (ltb j k) (mayCome ascending js k) m in
     (each-both (λ k. j < k) js (k ∷ []) (h .0) (each-one (λ k. j < k) k (ltb-true j k a)), rising-more js k (h .1) b)
 
 may-too : (seen : List ℕ) (k : ℕ) → Rising seen → mayCome ascending seen k ≡ true → mayCome anyhow seen k ≡ true
-unfolding Rising mayCome before nobody Each
+unfolding Rising mayCome mayPrecede nobody Each
 may-too [] k h m = refl
 may-too (j ∷ []) k h m = let a = both (ltb j k) true m .0 in rw a (rw (or-true (not (eqb (j / 2) (k / 2))) true refl))
 may-too (j ∷ i ∷ js) k h m =

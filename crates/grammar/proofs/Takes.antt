@@ -21,7 +21,7 @@ use Rattle.layout.specs.Columns.{hasFamily}
 use Rattle.layout.specs.Payloads.{eventOf, recordSize, headSize}
 use Rattle.layout.specs.declared.columns.Family.{Family}
 use Rattle.layout.specs.declared.columns.Family.the-variants.{Pre, Post, FrameStart, Item, FrameEnd, FodPlatform, DreamlandWhispy, StadiumTransformation}
-use Rattle.grammar.specs.Productions.{Player, Frame, rowEvent, preEvent, postEvent, frameEvents, framesEvents}
+use Rattle.grammar.specs.Productions.{Player, Frame, rowEvent, preEvent, postEvent, eventsOfFrame, eventsOfFrames}
 use Rattle.grammar.specs.WellFormed.{nobody, Each, Order, slotOf, mayCome, InOrder, GoodPlayer, GoodRow, GoodFrame}
 use Rattle.grammar.proofs.Tests.{or-true}
 use Rattle.grammar.proofs.Unique.{afterPosts, afterPres, afterStart, whole, frame-then}
@@ -224,10 +224,10 @@ NoFrame [] = Unit {0}
 NoFrame (e ∷ es) = familyOf (e .code) ≡ none
 
 pub complete : (v : Version) (o : Order) (t : List Ev) → NoFrame t → (fs : List Frame) → Each (GoodFrame v o) fs → (s : State) → closed v s ≡ true
-    → rest v o s (framesEvents v fs ++ t) ≡ some t
-unfolding framesEvents Each rest onFamily
+    → rest v o s (eventsOfFrames v fs ++ t) ≡ some t
+unfolding eventsOfFrames Each rest onFamily
 complete v o [] n [] h s c = rw c
 complete v o (e ∷ t) n [] h s c = rw (n, c)
 complete v o t n (f ∷ fs) h s c =
-    ap (λ (l : List Ev). rest v o s l) (append-assoc (frameEvents v f) (framesEvents v fs) t ∙ frame-then v f (framesEvents v fs ++ t))
-    ∙ frame-run v o f (h .0) (framesEvents v fs ++ t) (some t) (λ s c. complete v o t n fs (h .1) s c) s c
+    ap (λ (l : List Ev). rest v o s l) (append-assoc (eventsOfFrame v f) (eventsOfFrames v fs) t ∙ frame-then v f (eventsOfFrames v fs ++ t))
+    ∙ frame-run v o f (h .0) (eventsOfFrames v fs ++ t) (some t) (λ s c. complete v o t n fs (h .1) s c) s c

@@ -14,7 +14,7 @@ use Rattle.format.specs.declared.version.Version.{Version}
 use Rattle.layout.specs.Columns.{hasFamily, sizeOf, columnsOf, col, sum}
 use Rattle.layout.proofs.Prefix.{none}
 use Rattle.layout.specs.declared.columns.Family.the-variants.{Pre, Post, FrameStart, Item, FrameEnd, FodPlatform, DreamlandWhispy, StadiumTransformation}
-use Rattle.grammar.specs.Productions.{Player, Frame, Block, Replay, rowEvent, preEvent, postEvent, frameEvents, framesEvents, codesEvents, endEvent, eventsOf, blockEvent}
+use Rattle.grammar.specs.Productions.{Player, Frame, Block, Replay, rowEvent, preEvent, postEvent, eventsOfFrame, eventsOfFrames, codesEvents, endEvent, eventsOf, blockEvent}
 use Rattle.grammar.specs.WellFormed.{Each, Order, GoodFrame, GoodCodes, WellFormed}
 use Rattle.grammar.proofs.Lists.{append-same, first, Not, cut, other, row-bytes, row-id, rows-same}
 
@@ -226,8 +226,8 @@ both-empty xs ys n e a b = empty xs (a ∙ e) ∙ sym (empty ys (b ∙ e))
 
 -- ---- frames
 
-pub frame-then : (v : Version) (f : Frame) (t : List Ev) → frameEvents v f ++ t ≡ whole (hasFamily v FrameStart) (hasFamily v FrameEnd) f t
-unfolding frameEvents
+pub frame-then : (v : Version) (f : Frame) (t : List Ev) → eventsOfFrame v f ++ t ≡ whole (hasFamily v FrameStart) (hasFamily v FrameEnd) f t
+unfolding eventsOfFrame
 frame-then v f t = simp append-assoc
 
 -- a frame begins with its start, or with a Pre where there is none
@@ -244,7 +244,7 @@ follows-opens : (starts : Bool) (t : List Ev) → first t ≡ cond starts 0x3A 0
 follows-opens true t e = record { low = omega arith; post = λ x. omega arith; pre = λ y x. omega arith }
 follows-opens false t e = record { low = omega arith; post = λ x. omega arith; pre = λ y. let z : _≡_ {A = ℕ} 0 1 = cc in absurd (omega arith) }
 
-pub starts-with : (v : Version) (o : Order) (f : Frame) (t : List Ev) → GoodFrame v o f → first (frameEvents v f ++ t) ≡ cond (hasFamily v FrameStart) 0x3A 0x37
+pub starts-with : (v : Version) (o : Order) (f : Frame) (t : List Ev) → GoodFrame v o f → first (eventsOfFrame v f ++ t) ≡ cond (hasFamily v FrameStart) 0x3A 0x37
 starts-with v o f t h = ap first (frame-then v f t) ∙ opens _ _ f t (h .somebody)
 
 not-opens : (starts : Bool) (ends : List (List ℕ)) → first (map endEvent ends) ≡ cond starts 0x3A 0x37 → ⊥
@@ -258,30 +258,30 @@ follows-ends starts [] = record { low = omega arith; post = λ x. omega arith; p
 follows-ends starts (e ∷ ends) = record { low = omega arith; post = λ x. omega arith; pre = λ y x. omega arith }
 
 module _ (v : Version) (o : Order) (ends : List (List ℕ)) where
-  follows : (fs : List Frame) → Each (GoodFrame v o) fs → Follows (hasFamily v FrameStart) (framesEvents v fs ++ map endEvent ends)
-  unfolding framesEvents Each
+  follows : (fs : List Frame) → Each (GoodFrame v o) fs → Follows (hasFamily v FrameStart) (eventsOfFrames v fs ++ map endEvent ends)
+  unfolding eventsOfFrames Each
   follows [] h = follows-ends _ ends
   follows (f ∷ fs) h =
-      let e : (frameEvents v f ++ framesEvents v fs) ++ map endEvent ends ≡ frameEvents v f ++ (framesEvents v fs ++ map endEvent ends) = append-assoc (frameEvents v f)
-      (framesEvents v fs) (map endEvent ends) in
+      let e : (eventsOfFrame v f ++ eventsOfFrames v fs) ++ map endEvent ends ≡ eventsOfFrame v f ++ (eventsOfFrames v fs ++ map endEvent ends) = append-assoc (eventsOfFrame v f)
+      (eventsOfFrames v fs) (map endEvent ends) in
       follows-opens _ _ (ap first e ∙ starts-with v o f _ (h .0))
 
 module _ (v : Version) (o o′ : Order) (xs ys : List (List ℕ)) where
   pub frames-unique : (fs gs : List Frame) → Each (GoodFrame v o) fs → Each (GoodFrame v o′) gs
-      → framesEvents v fs ++ map endEvent xs ≡ framesEvents v gs ++ map endEvent ys → (fs ≡ gs) × (map endEvent xs ≡ map endEvent ys)
-  unfolding framesEvents Each
+      → eventsOfFrames v fs ++ map endEvent xs ≡ eventsOfFrames v gs ++ map endEvent ys → (fs ≡ gs) × (map endEvent xs ≡ map endEvent ys)
+  unfolding eventsOfFrames Each
   frames-unique [] [] h k q = (refl, q)
   frames-unique [] (g ∷ gs) h k q =
-      absurd (not-opens (hasFamily v FrameStart) xs (ap first (q ∙ append-assoc (frameEvents v g) (framesEvents v gs) (map endEvent ys)) ∙ starts-with v o′ g _ (k .0)))
+      absurd (not-opens (hasFamily v FrameStart) xs (ap first (q ∙ append-assoc (eventsOfFrame v g) (eventsOfFrames v gs) (map endEvent ys)) ∙ starts-with v o′ g _ (k .0)))
   frames-unique (f ∷ fs) [] h k q =
-      absurd (not-opens (hasFamily v FrameStart) ys (ap first (sym q ∙ append-assoc (frameEvents v f) (framesEvents v fs) (map endEvent xs)) ∙ starts-with v o f _ (h .0)))
+      absurd (not-opens (hasFamily v FrameStart) ys (ap first (sym q ∙ append-assoc (eventsOfFrame v f) (eventsOfFrames v fs) (map endEvent xs)) ∙ starts-with v o f _ (h .0)))
   frames-unique (f ∷ fs) (g ∷ gs) h k q =
       let a = h .0 in
       let b = k .0 in
       let e =
-      sym (append-assoc (frameEvents v f) (framesEvents v fs) (map endEvent xs) ∙ frame-then v f _)
+      sym (append-assoc (eventsOfFrame v f) (eventsOfFrames v fs) (map endEvent xs) ∙ frame-then v f _)
       ∙ q
-      ∙ append-assoc (frameEvents v g) (framesEvents v gs) (map endEvent ys)
+      ∙ append-assoc (eventsOfFrame v g) (eventsOfFrames v gs) (map endEvent ys)
       ∙ frame-then v g _ in
       let c =
       frame-cut _ _ f g _ _ (a .id) (b .id)
@@ -337,12 +337,12 @@ ends-unique (x ∷ xs) (y ∷ ys) q =
 
 -- ---- two well-formed replays of one version with the same events are equal
 
-pub no-block : (v : Version) (o : Order) (ends : List (List ℕ)) (fs : List Frame) → Each (GoodFrame v o) fs → Not 0x10 (framesEvents v fs ++ map endEvent ends)
-unfolding framesEvents Each
+pub no-block : (v : Version) (o : Order) (ends : List (List ℕ)) (fs : List Frame) → Each (GoodFrame v o) fs → Not 0x10 (eventsOfFrames v fs ++ map endEvent ends)
+unfolding eventsOfFrames Each
 no-block v o [] [] h = λ e. omega arith
 no-block v o (x ∷ ends) [] h = λ e. omega arith
 no-block v o ends (f ∷ fs) h =
-    let e = ap first (append-assoc (frameEvents v f) (framesEvents v fs) (map endEvent ends)) ∙ starts-with v o f _ (h .0) in
+    let e = ap first (append-assoc (eventsOfFrame v f) (eventsOfFrames v fs) (map endEvent ends)) ∙ starts-with v o f _ (h .0) in
     λ x. go (hasFamily v FrameStart) (sym x ∙ e)
   where
     go : (b : Bool) → _≡_ {A = ℕ} 0x10 (cond b 0x3A 0x37) → ⊥

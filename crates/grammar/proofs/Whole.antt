@@ -18,7 +18,7 @@ use Rattle.format.proofs.Versions.{no-way}
 use Rattle.layout.specs.Payloads.{endSize}
 use Rattle.start.specs.Length.{lengthOf}
 use Rattle.start.proofs.Lengths.{at-least}
-use Rattle.grammar.specs.Productions.{Block, Replay, startEvent, codesEvents, framesEvents, endEvent, eventsOf}
+use Rattle.grammar.specs.Productions.{Block, Replay, startEvent, codesEvents, eventsOfFrames, endEvent, eventsOf}
 use Rattle.grammar.specs.WellFormed.{Each, Order, GoodCodes, WellFormed}
 use Rattle.grammar.specs.Machine.{initial, rest, familyOf}
 use Rattle.grammar.specs.Whole.{saysVersion, isStart, codesRest, blocksRest, isEnd, areEnds, onSome, isReplay}
@@ -130,7 +130,7 @@ well-taken v o r h =
     let ends = map endEvent (r .ends) in
     rw (
       start-taken v (r .block) (h .version) (h .block) (h .short),
-      codes-run v (framesEvents v (r .frames) ++ ends) (no-block v o (r .ends) (r .frames) (h .frames)) (r .codes) (h .codes),
+      codes-run v (eventsOfFrames v (r .frames) ++ ends) (no-block v o (r .ends) (r .frames) (h .frames)) (r .codes) (h .codes),
       complete v o ends (no-frame (r .ends)) (r .frames) (h .frames) initial (closed-last v 0),
     )
     (ends-taken v (r .ends) (h .few) (h .ends))
@@ -171,7 +171,7 @@ module _ (v : Version) (o : Order) (e : Ev) (es : List Ev) (bytes : Each (λ e. 
             ap₂ (λ (a : Ev) (l : List Ev). a ∷ l) is
             (coded .events-are
             ∙ ap (λ (l : List Ev). codesEvents (coded .codes) ++ l)
-            (frames .events-are ∙ ap (λ (l : List Ev). framesEvents v (frames .frames) ++ l) (ended .events-are)));
+            (frames .events-are ∙ ap (λ (l : List Ev). eventsOfFrames v (frames .frames) ++ l) (ended .events-are)));
       }
 
 found : (v : Version) (o : Order) (es : List Ev) → Each (λ e. Each Byte (e .payload)) es → isReplay v o es ≡ true → Comes v o es

@@ -57,8 +57,8 @@ abbrev pub postEvent : ℕ → Player → Ev
 postEvent id p = rowEvent Post id (p .port ∷ p .follower ∷ p .post)
 
 -- a frame: start; each player's Pre; Fod, Whispy, Stadium; items; each player's Post; end
-unfoldable pub frameEvents : Version → Frame → List Ev
-frameEvents v f =
+unfoldable pub eventsOfFrame : Version → Frame → List Ev
+eventsOfFrame v f =
     keep (hasFamily v FrameStart) (rowEvent FrameStart (f .id) (f .start) ∷ [])
     ++ (map (preEvent (f .id)) (f .players)
     ++ (map (rowEvent FodPlatform (f .id)) (f .fods)
@@ -68,9 +68,9 @@ frameEvents v f =
     ++ (map (postEvent (f .id)) (f .players)
     ++ keep (hasFamily v FrameEnd) (rowEvent FrameEnd (f .id) (f .end) ∷ [])))))))
 
-unfoldable pub framesEvents : Version → List Frame → List Ev
-framesEvents v [] = []
-framesEvents v (f ∷ fs) = frameEvents v f ++ framesEvents v fs
+unfoldable pub eventsOfFrames : Version → List Frame → List Ev
+eventsOfFrames v [] = []
+eventsOfFrames v (f ∷ fs) = eventsOfFrame v f ++ eventsOfFrames v fs
 
 -- a block: its bytes, how many are codes, what they are a part of, and 1 for the last block, else 0
 abbrev pub blockEvent : ℕ → Block → Ev
@@ -89,9 +89,14 @@ endEvent bytes = record { code = codeOf GameEnd; payload = bytes }
 
 -- a replay: GameStart, the blocks of codes, the frames, the ends
 unfoldable pub eventsOf : Version → Replay → List Ev
-eventsOf v r = startEvent (r .block) ∷ (codesEvents (r .codes) ++ (framesEvents v (r .frames) ++ map endEvent (r .ends)))
+eventsOf v r = startEvent (r .block) ∷ (codesEvents (r .codes) ++ (eventsOfFrames v (r .frames) ++ map endEvent (r .ends)))
 
 -- how many bytes of the blocks are codes
 unfoldable pub usedIn : List Block → ℕ
 usedIn [] = 0
 usedIn (b ∷ bs) = b .used + usedIn bs
+
+-- the blocks' bytes one after another
+unfoldable pub codesBytes : List Block → List ℕ
+codesBytes [] = []
+codesBytes (b ∷ bs) = b .bytes ++ codesBytes bs

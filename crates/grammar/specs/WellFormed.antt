@@ -36,14 +36,14 @@ nobody [] = true
 nobody (k ∷ ks) = false
 
 -- slot j may stand before slot k, right before it or not. In any order of the ports, a port's leader stands right before its follower, and no slot twice
-unfoldable pub before : Order → Bool → ℕ → ℕ → Bool
-before ascending right j k = ltb j k
-before anyhow right j k = not (eqb (j / 2) (k / 2)) || (right && ltb j k)
+unfoldable pub mayPrecede : Order → Bool → ℕ → ℕ → Bool
+mayPrecede ascending right j k = ltb j k
+mayPrecede anyhow right j k = not (eqb (j / 2) (k / 2)) || (right && ltb j k)
 
 -- slot k may stand after all of these
 unfoldable pub mayCome : Order → List ℕ → ℕ → Bool
 mayCome o [] k = true
-mayCome o (j ∷ js) k = before o (nobody js) j k && mayCome o js k
+mayCome o (j ∷ js) k = mayPrecede o (nobody js) j k && mayCome o js k
 
 -- slots in order, after those that were seen
 unfoldable pub InOrder : Order → List ℕ → List ℕ → Type 0

@@ -4,10 +4,10 @@ use Prim.Native.Nat.{ℕ}
 use native.Mathlib.Decide.{ℕ-discrete}
 use mathlib.Core.Path.{_≡_, sym, _∙_}
 use mathlib.Core.List.{List}
-use Rattle.map.specs.Write.{Outcome}
+use Rattle.map.specs.Write.{WriteMapOutcome}
 use Rattle.map.specs.declared.write.Written.{Written}
 
-pub only : {before rows texts a b : List ℕ} {count : ℕ} {q r : Written} → Outcome before rows texts count a q → Outcome before rows texts count b r → (q .refusal ≡ r .refusal) × (q .len ≡ r .len) × (a ≡ b)
+pub only : {before rows texts a b : List ℕ} {count : ℕ} {q r : Written} → WriteMapOutcome before rows texts count a q → WriteMapOutcome before rows texts count b r → (q .refusal ≡ r .refusal) × (q .len ≡ r .len) × (a ≡ b)
 only {q = q} {r = r} x y =
     let same = x .refusal-is ∙ sym (y .refusal-is) in
     elim (ℕ-discrete (q .refusal) 0) [

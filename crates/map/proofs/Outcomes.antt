@@ -17,7 +17,7 @@ use Rattle.format.proofs.Tests.{other, same, same-of, one-here, one-skip, one-n
 use Rattle.map.specs.Map.{bodyOf}
 use Rattle.map.specs.Keys.{doubledAt}
 use Rattle.map.specs.Inner.{capOf}
-use Rattle.map.specs.Write.{lentMap, refusalOf, Outcome}
+use Rattle.map.specs.Write.{lentMap, refusalOf, WriteMapOutcome}
 use Rattle.map.proofs.Judging.{cap-over, cap-under}
 
 cap-long : (L bytes : ℕ) → bytes ≡ capOf L → 65535 < bytes → 65535 < L
@@ -122,11 +122,11 @@ refused-as rows texts count room a =
     (omega (arith, cap-under (length (bodyOf (lentMap rows texts count .map))) (a .small), a .small)) (omega (arith, cap-under (length (bodyOf (lentMap rows texts count .map))) (a .small), a .fits))
 
 -- the two outcomes
-pub outcome-no : {before rows texts : List ℕ} {count n : ℕ} → n ≡ refusalOf rows texts count (length before) → (n ≡ 0 → ⊥) → Outcome before rows texts count before (record { refusal = n; len = 0 })
+pub outcome-no : {before rows texts : List ℕ} {count n : ℕ} → n ≡ refusalOf rows texts count (length before) → (n ≡ 0 → ⊥) → WriteMapOutcome before rows texts count before (record { refusal = n; len = 0 })
 outcome-no e h = record { refusal-is = e; accepted = λ z. absurd (h z); untouched = λ z. (refl, refl) }
 
 pub outcome-yes : {before rows texts after : List ℕ} {count n at : ℕ} → n ≡ refusalOf rows texts count (length before) → n ≡ 0 → Wrote before after 0 at (bodyOf (lentMap rows texts count .map))
-    → Outcome before rows texts count after (record { refusal = 0; len = at })
+    → WriteMapOutcome before rows texts count after (record { refusal = 0; len = at })
 outcome-yes e z w = record { refusal-is = sym z ∙ e; accepted = λ q. (w .next-is ∙ zero-add _, w .after-is); untouched = λ n. absurd (n refl) }
 
 pub put-ok : (before rows texts : List ℕ) (count : ℕ) {n : ℕ} → n ≡ refusalOf rows texts count (length before) → n ≡ 0

@@ -30,7 +30,7 @@ refusalOf rows texts count room =
     ∷ [])
 
 -- the body over the output's front, or the output as it was
-pub record Outcome (before rows texts : List ℕ) (count : ℕ) (after : List ℕ) (r : Written) : Type 0 where
+pub record WriteMapOutcome (before rows texts : List ℕ) (count : ℕ) (after : List ℕ) (r : Written) : Type 0 where
   pub refusal-is : r .refusal ≡ refusalOf rows texts count (length before)
   pub accepted : r .refusal ≡ 0 → (r .len ≡ length (bodyOf (lentMap rows texts count .map))) × (after ≡ splice before 0 (bodyOf (lentMap rows texts count .map)))
   pub untouched : (r .refusal ≡ 0 → ⊥) → (r .len ≡ 0) × (after ≡ before)

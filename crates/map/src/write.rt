@@ -1,6 +1,6 @@
 // The public call: a map's body from lent rows, judged first.
 ghost use mathlib.Core.Path.{_≡_};
-ghost use Rattle.map.specs.Write.{refusalOf, Outcome};
+ghost use Rattle.map.specs.Write.{refusalOf, WriteMapOutcome};
 use crate::judge::judge_map;
 use crate::keys::doubled;
 use crate::put::put_map;
@@ -46,7 +46,7 @@ fn refused(rows: &[u32], texts: &[u8], count: usize, room: usize) -> u8
 
 // The body of the map of `count` entries whose rows are lent, from the output's start on. Maps nest at most 8 deep.
 pub fn write_map(out: &mut [u8], rows: &[u32], texts: &[u8], count: usize) -> Written
-    ensures { λ r. ⌜ Outcome (now (out .entry)) (now (rows .entry)) (now (texts .entry)) count (now (out .exit)) r ⌝ }
+    ensures { λ r. ⌜ WriteMapOutcome (now (out .entry)) (now (rows .entry)) (now (texts .entry)) count (now (out .exit)) r ⌝ }
 {
     let no = refused(rows, texts, count, out.len());
     if no != 0 {

@@ -8,8 +8,8 @@ use native.Mathlib.Nat.{add-zero, zero-add}
 use native.Mathlib.Omega.{arith}
 use lib.ListN.{length, getD}
 use Rattle.map.specs.Map.{Value, text, number, map, Map, empty, entry, has}
-use Rattle.map_reader.specs.Read.{textStop, textOf, Seen, SeenValue, refused, stopped, joined, entriesIn, inside, readAt, valueAt}
-use Rattle.map_reader.specs.Back.{sizeValue, sizeOf}
+use Rattle.map_reader.specs.Read.{textStop, textOf, Seen, SeenValue, refused, stopped, joined, mapEntriesIn, inside, mapReadAt, valueReadAt}
+use Rattle.map_reader.specs.Back.{sizeValue, entryCount}
 use Rattle.map_reader.specs.Inner.{Run, keysFrom, Ran, Repeated}
 use Rattle.map_reader.specs.declared.read.Read.{Read}
 use Rattle.map_reader.proofs.Steps.{entries-none, entries-cut, entries-twice, entries-bad, entries-more}
@@ -38,16 +38,16 @@ pub size-number : (n : ℕ) → 0 ≡ sizeValue (number n)
 unfolding sizeValue
 size-number n = refl
 
-pub size-map : (m : Map) {e : ℕ} → e ≡ sizeOf m → e ≡ sizeValue (map m)
+pub size-map : (m : Map) {e : ℕ} → e ≡ entryCount m → e ≡ sizeValue (map m)
 unfolding sizeValue
 size-map m q = q
 
-size-entry : (k : List ℕ) (v : Value) (m : Map) → sizeOf (entry k v m) ≡ 1 + sizeValue v + sizeOf m
-unfolding sizeOf
+size-entry : (k : List ℕ) (v : Value) (m : Map) → entryCount (entry k v m) ≡ 1 + sizeValue v + entryCount m
+unfolding entryCount
 size-entry k v m = refl
 
-size-none : sizeOf empty ≡ 0
-unfolding sizeOf
+size-none : entryCount empty ≡ 0
+unfolding entryCount
 size-none = refl
 
 pub record Going (b : List ℕ) (d at p count : ℕ) : Type 0 where
@@ -55,86 +55,86 @@ pub record Going (b : List ℕ) (d at p count : ℕ) : Type 0 where
   pub run : Run b d at n p
   pub most : ℕ
   pub enough : length b < p + most
-  pub refusal-is : entriesIn (inside b d) b (keysFrom b d n at) most p .refusal ≡ readAt b d at .refusal
-  pub stop-is : entriesIn (inside b d) b (keysFrom b d n at) most p .stop ≡ readAt b d at .stop
-  pub size-is : count + sizeOf (entriesIn (inside b d) b (keysFrom b d n at) most p .map) ≡ sizeOf (readAt b d at .map)
+  pub refusal-is : mapEntriesIn (inside b d) b (keysFrom b d n at) most p .refusal ≡ mapReadAt b d at .refusal
+  pub stop-is : mapEntriesIn (inside b d) b (keysFrom b d n at) most p .stop ≡ mapReadAt b d at .stop
+  pub size-is : count + entryCount (mapEntriesIn (inside b d) b (keysFrom b d n at) most p .map) ≡ entryCount (mapReadAt b d at .map)
 
 pub going-start : (b : List ℕ) (d at : ℕ) → Going b d at at 0
 unfolding Run keysFrom
-going-start b d at = record { n = 0; run = refl; most = suc (length b); enough = omega arith; refusal-is = refl; stop-is = refl; size-is = zero-add (sizeOf (readAt b d at .map)) }
+going-start b d at = record { n = 0; run = refl; most = suc (length b); enough = omega arith; refusal-is = refl; stop-is = refl; size-is = zero-add (entryCount (mapReadAt b d at .map)) }
 
 -- one turn is left
 record Turning (b : List ℕ) (d at p count n : ℕ) : Type 0 where
   rest : ℕ
   enough : length b ≤ p + rest
-  refusal-is : entriesIn (inside b d) b (keysFrom b d n at) (suc rest) p .refusal ≡ readAt b d at .refusal
-  stop-is : entriesIn (inside b d) b (keysFrom b d n at) (suc rest) p .stop ≡ readAt b d at .stop
-  size-is : count + sizeOf (entriesIn (inside b d) b (keysFrom b d n at) (suc rest) p .map) ≡ sizeOf (readAt b d at .map)
+  refusal-is : mapEntriesIn (inside b d) b (keysFrom b d n at) (suc rest) p .refusal ≡ mapReadAt b d at .refusal
+  stop-is : mapEntriesIn (inside b d) b (keysFrom b d n at) (suc rest) p .stop ≡ mapReadAt b d at .stop
+  size-is : count + entryCount (mapEntriesIn (inside b d) b (keysFrom b d n at) (suc rest) p .map) ≡ entryCount (mapReadAt b d at .map)
 
 turning : {b : List ℕ} {d at p count : ℕ} (g : Going b d at p count) → p ≤ length b → Turning b d at p count (g .n)
 turning {b} {d} {at} {p} {count} g h = go (g .most) (g .enough) (g .refusal-is) (g .stop-is) (g .size-is)
   where
-    go : (n : ℕ) → length b < p + n → entriesIn (inside b d) b (keysFrom b d (g .n) at) n p .refusal ≡ readAt b d at .refusal → entriesIn (inside b d) b (keysFrom b d (g .n) at) n p .stop ≡ readAt b d at .stop
-        → count + sizeOf (entriesIn (inside b d) b (keysFrom b d (g .n) at) n p .map) ≡ sizeOf (readAt b d at .map) → Turning b d at p count (g .n)
+    go : (n : ℕ) → length b < p + n → mapEntriesIn (inside b d) b (keysFrom b d (g .n) at) n p .refusal ≡ mapReadAt b d at .refusal → mapEntriesIn (inside b d) b (keysFrom b d (g .n) at) n p .stop ≡ mapReadAt b d at .stop
+        → count + entryCount (mapEntriesIn (inside b d) b (keysFrom b d (g .n) at) n p .map) ≡ entryCount (mapReadAt b d at .map) → Turning b d at p count (g .n)
     go zero k r s z = absurd (omega arith)
     go (suc n) k r s z = record { rest = n; enough = omega arith; refusal-is = r; stop-is = s; size-is = z }
 
 module _ {b : List ℕ} {d at p count mark : ℕ} (g : Going b d at p count) (h : p ≤ length b) (m : mark ≡ getD b p 0) where
-  pub going-done : (mark ≡ 0x55 → ⊥) → (0 ≡ readAt b d at .refusal) × (p ≡ readAt b d at .stop) × (count ≡ sizeOf (readAt b d at .map))
+  pub going-done : (mark ≡ 0x55 → ⊥) → (0 ≡ mapReadAt b d at .refusal) × (p ≡ mapReadAt b d at .stop) × (count ≡ entryCount (mapReadAt b d at .map))
   going-done n =
       let t = turning g h in
       let s = entries-none (inside b d) b (keysFrom b d (g .n) at) (t .rest) p (λ q. n (m ∙ q)) in (
         sym (ap (λ w. w .refusal) s) ∙ t .refusal-is,
         sym (ap (λ w. w .stop) s) ∙ t .stop-is,
-        sym (add-zero count) ∙ ap (λ k. count + k) (sym (ap (λ (w : Seen). sizeOf (w .map)) s ∙ size-none)) ∙ t .size-is,
+        sym (add-zero count) ∙ ap (λ k. count + k) (sym (ap (λ (w : Seen). entryCount (w .map)) s ∙ size-none)) ∙ t .size-is,
       )
 
   module _ (e : mark ≡ 0x55) {q : ℕ} (eq : q ≡ textStop b p) where
-    pub going-cut : q ≡ 0 → (23 ≡ readAt b d at .refusal) × (p ≡ readAt b d at .stop)
+    pub going-cut : q ≡ 0 → (23 ≡ mapReadAt b d at .refusal) × (p ≡ mapReadAt b d at .stop)
     going-cut z =
         let t = turning g h in
         let s = entries-cut (inside b d) b (keysFrom b d (g .n) at) (t .rest) p (sym m ∙ e) (sym eq ∙ z) in
         (sym (ap (λ w. w .refusal) s) ∙ t .refusal-is, sym (ap (λ w. w .stop) s) ∙ t .stop-is)
 
     module _ (n : q ≡ 0 → ⊥) {x : Bool} (ex : Repeated b d at p x) where
-      pub going-twice : x ≡ true → (22 ≡ readAt b d at .refusal) × (p ≡ readAt b d at .stop)
+      pub going-twice : x ≡ true → (22 ≡ mapReadAt b d at .refusal) × (p ≡ mapReadAt b d at .stop)
       going-twice y =
           let t = turning g h in
           let s = entries-twice (inside b d) b (keysFrom b d (g .n) at) (t .rest) p (sym m ∙ e) (λ z. n (eq ∙ z)) (sym (ex .is (g .n) (g .run)) ∙ y) in
           (sym (ap (λ w. w .refusal) s) ∙ t .refusal-is, sym (ap (λ w. w .stop) s) ∙ t .stop-is)
 
-      module _ (y : x ≡ false) {r s : ℕ} (er : r ≡ valueAt b d q .refusal) (es : s ≡ valueAt b d q .stop) where
-        r-is : r ≡ valueAt b d (textStop b p) .refusal
-        r-is = er ∙ ap (λ k. valueAt b d k .refusal) eq
+      module _ (y : x ≡ false) {r s : ℕ} (er : r ≡ valueReadAt b d q .refusal) (es : s ≡ valueReadAt b d q .stop) where
+        r-is : r ≡ valueReadAt b d (textStop b p) .refusal
+        r-is = er ∙ ap (λ k. valueReadAt b d k .refusal) eq
 
-        s-is : s ≡ valueAt b d (textStop b p) .stop
-        s-is = es ∙ ap (λ k. valueAt b d k .stop) eq
+        s-is : s ≡ valueReadAt b d (textStop b p) .stop
+        s-is = es ∙ ap (λ k. valueReadAt b d k .stop) eq
 
-        pub going-bad : (r ≡ 0 → ⊥) → (r ≡ readAt b d at .refusal) × (s ≡ readAt b d at .stop)
+        pub going-bad : (r ≡ 0 → ⊥) → (r ≡ mapReadAt b d at .refusal) × (s ≡ mapReadAt b d at .stop)
         going-bad bad =
             let t = turning g h in
             let j = entries-bad (inside b d) b (keysFrom b d (g .n) at) (t .rest) p (sym m ∙ e) (λ z. n (eq ∙ z)) (sym (ex .is (g .n) (g .run)) ∙ y) (λ z. bad (r-is ∙ z)) in
             (r-is ∙ sym (ap (λ w. w .refusal) j) ∙ t .refusal-is, s-is ∙ sym (ap (λ w. w .stop) j) ∙ t .stop-is)
 
-        pub going-more : {k : ℕ} → r ≡ 0 → p < s → k ≡ sizeValue (valueAt b d q .value) → Going b d at s (count + 1 + k)
+        pub going-more : {k : ℕ} → r ≡ 0 → p < s → k ≡ sizeValue (valueReadAt b d q .value) → Going b d at s (count + 1 + k)
         going-more {k} z far ek =
             let t = turning g h in
             let keys = keysFrom b d (g .n) at in
-            let v = valueAt b d (textStop b p) in
+            let v = valueReadAt b d (textStop b p) in
             let ok = sym r-is ∙ z in
             let j = entries-more (inside b d) b keys (t .rest) p (sym m ∙ e) (λ z. n (eq ∙ z)) (sym (ex .is (g .n) (g .run)) ∙ y) ok in
             let (run, more) = run-snoc b d at (g .n) p (g .run) (λ z. n (eq ∙ z)) ok (omega (arith, far, s-is)) in
-            let later = entriesIn (inside b d) b (keys ++ (textOf b p ∷ [])) (t .rest) (v .stop) in
-            let all = ap (λ (w : Seen). sizeOf (w .map)) j ∙ size-entry (textOf b p) (v .value) (later .map) in
-            let size = ek ∙ ap (λ i. sizeValue (valueAt b d i .value)) eq in
+            let later = mapEntriesIn (inside b d) b (keys ++ (textOf b p ∷ [])) (t .rest) (v .stop) in
+            let all = ap (λ (w : Seen). entryCount (w .map)) j ∙ size-entry (textOf b p) (v .value) (later .map) in
+            let size = ek ∙ ap (λ i. sizeValue (valueReadAt b d i .value)) eq in
             rw s-is (record {
               n = suc (g .n);
               run = run;
               most = t .rest;
               enough = omega (arith, t .enough, far, s-is);
-              refusal-is = ap (λ l. entriesIn (inside b d) b l (t .rest) (v .stop) .refusal) more ∙ sym (ap (λ w. w .refusal) j) ∙ t .refusal-is;
-              stop-is = ap (λ l. entriesIn (inside b d) b l (t .rest) (v .stop) .stop) more ∙ sym (ap (λ w. w .stop) j) ∙ t .stop-is;
-              size-is = ap (λ l. count + 1 + k + sizeOf (entriesIn (inside b d) b l (t .rest) (v .stop) .map)) more ∙ (let sum : count + 1 + k + sizeOf (later .map) ≡ sizeOf (readAt b d at .map) = omega (arith, all, size, t .size-is) in sum);
+              refusal-is = ap (λ l. mapEntriesIn (inside b d) b l (t .rest) (v .stop) .refusal) more ∙ sym (ap (λ w. w .refusal) j) ∙ t .refusal-is;
+              stop-is = ap (λ l. mapEntriesIn (inside b d) b l (t .rest) (v .stop) .stop) more ∙ sym (ap (λ w. w .stop) j) ∙ t .stop-is;
+              size-is = ap (λ l. count + 1 + k + entryCount (mapEntriesIn (inside b d) b l (t .rest) (v .stop) .map)) more ∙ (let sum : count + 1 + k + entryCount (later .map) ≡ entryCount (mapReadAt b d at .map) = omega (arith, all, size, t .size-is) in sum);
             })
 
 pub ran-of : {b : List ℕ} {d at p count : ℕ} → Going b d at p count → Ran b d at p

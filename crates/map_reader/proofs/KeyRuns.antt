@@ -8,7 +8,7 @@ use native.Mathlib.Omega.{arith}
 use lib.ListN.{length, getD}
 use Rattle.wire.specs.Wire.{part}
 use Rattle.map.specs.Map.{same, has}
-use Rattle.map_reader.specs.Read.{textStop, textOf, valueAt}
+use Rattle.map_reader.specs.Read.{textStop, textOf, valueReadAt}
 use Rattle.map_reader.specs.Inner.{Run, keysFrom, Ran, Repeated}
 use Rattle.map_reader.proofs.Sound.{stop-yes}
 
@@ -16,8 +16,8 @@ use Rattle.map_reader.proofs.Sound.{stop-yes}
 pub record First (b : List ℕ) (d q p : ℕ) : Type 0 where
   pub text : textStop b q ≡ 0 → ⊥
   pub inside : q + 2 + getD b (q + 1) 0 ≤ length b
-  pub value : valueAt b d (textStop b q) .refusal ≡ 0
-  pub rest : Ran b d (valueAt b d (textStop b q) .stop) p
+  pub value : valueReadAt b d (textStop b q) .refusal ≡ 0
+  pub rest : Ran b d (valueReadAt b d (textStop b q) .stop) p
 
 first-with : (b : List ℕ) (d q p n : ℕ) → q < p → Run b d q n p → First b d q p
 unfolding Run
@@ -61,35 +61,35 @@ looking-done {b} {d} {at} {p} {q} g h = record { is = λ n r. let l = g .looked 
 key-here : (b : List ℕ) (d p q m : ℕ) {x : Bool} → q < p → x ≡ same (textOf b q) (textOf b p) → x ≡ true → Run b d q m p → has (keysFrom b d m q) (textOf b p) ≡ true
 unfolding Run keysFrom has
 key-here b d p q zero h ex y r = absurd (omega (arith, h, r))
-key-here b d p q (suc m) h ex y r = ap (λ t. t || has (keysFrom b d m (valueAt b d (textStop b q) .stop)) (textOf b p)) (sym ex ∙ y)
+key-here b d p q (suc m) h ex y r = ap (λ t. t || has (keysFrom b d m (valueReadAt b d (textStop b q) .stop)) (textOf b p)) (sym ex ∙ y)
 
 key-later : (b : List ℕ) (d at p q m n : ℕ) {x : Bool} → q < p → x ≡ same (textOf b q) (textOf b p) → x ≡ false → Run b d q m p
-    → has (keysFrom b d m q) (textOf b p) ≡ has (keysFrom b d n at) (textOf b p) → Looked b d at p (valueAt b d (textStop b q) .stop) n
+    → has (keysFrom b d m q) (textOf b p) ≡ has (keysFrom b d n at) (textOf b p) → Looked b d at p (valueReadAt b d (textStop b q) .stop) n
 unfolding Run keysFrom has
 key-later b d at p q zero n h ex y r z = absurd (omega (arith, h, r))
 key-later b d at p q (suc m) n h ex y r z = record {
   m = m;
   run = r .3;
-  is = sym (ap (λ t. t || has (keysFrom b d m (valueAt b d (textStop b q) .stop)) (textOf b p)) (sym ex ∙ y)) ∙ z;
+  is = sym (ap (λ t. t || has (keysFrom b d m (valueReadAt b d (textStop b q) .stop)) (textOf b p)) (sym ex ∙ y)) ∙ z;
 }
 
 module _ {b : List ℕ} {d at p q : ℕ} (g : Looking b d at p q) (h : q < p) {x : Bool} (ex : x ≡ same (textOf b q) (textOf b p)) where
   pub looking-same : x ≡ true → Repeated b d at p true
   looking-same y = record { is = λ n r. let l = g .looked n r in sym (key-here b d p q (l .m) h ex y (l .run)) ∙ l .is }
 
-  pub looking-more : {s next : ℕ} → x ≡ false → s ≡ textStop b q → next ≡ valueAt b d s .stop → Looking b d at p next
+  pub looking-more : {s next : ℕ} → x ≡ false → s ≡ textStop b q → next ≡ valueReadAt b d s .stop → Looking b d at p next
   looking-more y es en =
-      let to = en ∙ ap (λ k. valueAt b d k .stop) es in
+      let to = en ∙ ap (λ k. valueReadAt b d k .stop) es in
       rw to (record { ran = first-of (g .ran) h .rest; looked = λ n r. let l = g .looked n r in key-later b d at p q (l .m) n h ex y (l .run) (l .is) })
 
-pub value-at : {b : List ℕ} {d q p s : ℕ} → First b d q p → s ≡ textStop b q → valueAt b d s .refusal ≡ 0
-value-at {b} {d} f e = ap (λ k. valueAt b d k .refusal) e ∙ f .value
+pub value-at : {b : List ℕ} {d q p s : ℕ} → First b d q p → s ≡ textStop b q → valueReadAt b d s .refusal ≡ 0
+value-at {b} {d} f e = ap (λ k. valueReadAt b d k .refusal) e ∙ f .value
 
 -- one entry more
-pub run-snoc : (b : List ℕ) (d q n p : ℕ) → Run b d q n p → (textStop b p ≡ 0 → ⊥) → valueAt b d (textStop b p) .refusal ≡ 0 → p < valueAt b d (textStop b p) .stop
-    → Run b d q (suc n) (valueAt b d (textStop b p) .stop) × (keysFrom b d (suc n) q ≡ keysFrom b d n q ++ (textOf b p ∷ []))
+pub run-snoc : (b : List ℕ) (d q n p : ℕ) → Run b d q n p → (textStop b p ≡ 0 → ⊥) → valueReadAt b d (textStop b p) .refusal ≡ 0 → p < valueReadAt b d (textStop b p) .stop
+    → Run b d q (suc n) (valueReadAt b d (textStop b p) .stop) × (keysFrom b d (suc n) q ≡ keysFrom b d n q ++ (textOf b p ∷ []))
 unfolding Run keysFrom
 run-snoc b d q zero p r t v far = rw r ((t, v, far, refl), refl)
 run-snoc b d q (suc n) p r t v far =
-    let (a, e) = run-snoc b d (valueAt b d (textStop b q) .stop) n p (r .3) t v far in
+    let (a, e) = run-snoc b d (valueReadAt b d (textStop b q) .stop) n p (r .3) t v far in
     ((r .0, r .1, omega (arith, r .2), a), ap (λ l. textOf b q ∷ l) e)

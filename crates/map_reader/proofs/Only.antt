@@ -4,10 +4,10 @@ use Prim.Native.Nat.{ℕ}
 use native.Mathlib.Decide.{ℕ-discrete}
 use mathlib.Core.Path.{_≡_, sym, _∙_}
 use mathlib.Core.List.{List}
-use Rattle.map_reader.specs.Answer.{ReadOutcome}
+use Rattle.map_reader.specs.Answer.{ReadMapOutcome}
 use Rattle.map_reader.specs.declared.read.MapRead.{MapRead}
 
-pub only : {body before a b : List ℕ} {q r : MapRead} → ReadOutcome body before a q → ReadOutcome body before b r
+pub only : {body before a b : List ℕ} {q r : MapRead} → ReadMapOutcome body before a q → ReadMapOutcome body before b r
     → (q .refusal ≡ r .refusal) × (q .place ≡ r .place) × (q .count ≡ r .count) × (q .entries ≡ r .entries) × (a ≡ b)
 only {q = q} {r = r} x y =
     let same = x .refusal-is ∙ sym (y .refusal-is) in

@@ -13,7 +13,7 @@ use lib.ListN.{length, drop, getD, length-append}
 use lib.Seq.{drop-length}
 use Rattle.wire.specs.Wire.{be, part, number as numberOf}
 use Rattle.map.specs.Map.{Value, text, number, map, Map, empty, entry, textBytes, valueBytes, bodyOf, fitsValue, fits, has, twiceValue, twiceIn}
-use Rattle.map_reader.specs.Read.{Bytes, textStop, textOf, otherWrong, Seen, SeenValue, refused, stopped, closed, valueIn, joined, entriesIn, inside, readAt, valueAt}
+use Rattle.map_reader.specs.Read.{Bytes, textStop, textOf, otherWrong, Seen, SeenValue, refused, stopped, closedMap, valueIn, joined, mapEntriesIn, inside, mapReadAt, valueReadAt}
 use Rattle.map.proofs.Laws.{length-part}
 use Rattle.map_reader.proofs.Places.{Stands, stands-cons, stands-part, stands-append, there, be-number, part-bytes}
 use Rattle.map_reader.proofs.Steps.{value-text, value-no-text, value-number, value-no-number, value-none, value-map, closed-refused, closed-open, closed-yes, text-some, other-some, entries-none, entries-cut, entries-twice, entries-bad, entries-more}
@@ -74,10 +74,10 @@ bad-map n e h z = absurd (h (sym (ap (λ (w : Seen). w .refusal) e) ∙ z))
 
 -- values, by their mark
 module _ (b : List ℕ) (d p : ℕ) (h : Bytes b) where
-  value-as : (v : SeenValue) → valueAt b d p ≡ v → ValueAt b d p v → ValueAt b d p (valueAt b d p)
+  value-as : (v : SeenValue) → valueReadAt b d p ≡ v → ValueAt b d p v → ValueAt b d p (valueReadAt b d p)
   value-as v e x = rw e x
 
-  text-value-sound : getD b p 0 ≡ 0x53 → valueAt b d p .refusal ≡ 0 → ValueAt b d p (valueAt b d p)
+  text-value-sound : getD b p 0 ≡ 0x53 → valueReadAt b d p .refusal ≡ 0 → ValueAt b d p (valueReadAt b d p)
   unfolding valueBytes fitsValue twiceValue
   text-value-sound mark z = elim (ℕ-discrete (textStop b (p + 1)) 0) [
     | yes e ↦ bad-value _ (value-no-text b d p refl mark refl e refl) (text-some b (p + 1)) z
@@ -92,7 +92,7 @@ module _ (b : List ℕ) (d p : ℕ) (h : Bytes b) where
         })
   ]
 
-  number-value-sound : getD b p 0 ≡ 0x6c → valueAt b d p .refusal ≡ 0 → ValueAt b d p (valueAt b d p)
+  number-value-sound : getD b p 0 ≡ 0x6c → valueReadAt b d p .refusal ≡ 0 → ValueAt b d p (valueReadAt b d p)
   unfolding valueBytes fitsValue twiceValue
   number-value-sound mark z = elim (decLt (length b) (p + 5)) [
     | yes l ↦ bad-value 23 (value-no-number b d p refl (λ e. eqb-false 0x6c 0x53 refl (sym mark ∙ e)) mark l) (eqb-false 23 0 refl) z
@@ -110,11 +110,11 @@ module _ (b : List ℕ) (d p : ℕ) (h : Bytes b) where
   ]
 
   map-value-sound : ((q : ℕ) → q < length b → inside b d q .refusal ≡ 0 → MapAt b (q + 1) (λ m. fitsValue (map m) d × (twiceIn [] m ≡ false)) (inside b d q))
-      → getD b p 0 ≡ 0x7b → valueAt b d p .refusal ≡ 0 → ValueAt b d p (valueAt b d p)
+      → getD b p 0 ≡ 0x7b → valueReadAt b d p .refusal ≡ 0 → ValueAt b d p (valueReadAt b d p)
   unfolding valueBytes twiceValue
   map-value-sound inner mark z =
       let g = inside b d p in
-      let e : valueAt b d p ≡ closed b g = value-map b d p refl (λ e. eqb-false 0x7b 0x53 refl (sym mark ∙ e)) (λ e. eqb-false 0x7b 0x6c refl (sym mark ∙ e)) mark in
+      let e : valueReadAt b d p ≡ closedMap b g = value-map b d p refl (λ e. eqb-false 0x7b 0x53 refl (sym mark ∙ e)) (λ e. eqb-false 0x7b 0x6c refl (sym mark ∙ e)) mark in
       elim (ℕ-discrete (g .refusal) 0) [
         | no n ↦ bad-value (g .refusal) (e ∙ closed-refused b g refl refl n) n z
         | yes y ↦ elim (ℕ-discrete (getD b (g .stop) 0) 0x7d) [
@@ -137,7 +137,7 @@ module _ (b : List ℕ) (d p : ℕ) (h : Bytes b) where
 abbrev pub Inside : List ℕ → ℕ → Type 0
 Inside b d = (q : ℕ) → q < length b → inside b d q .refusal ≡ 0 → MapAt b (q + 1) (λ m. fitsValue (map m) d × (twiceIn [] m ≡ false)) (inside b d q)
 
-pub value-sound : (b : List ℕ) (d p : ℕ) → Bytes b → Inside b d → valueAt b d p .refusal ≡ 0 → ValueAt b d p (valueAt b d p)
+pub value-sound : (b : List ℕ) (d p : ℕ) → Bytes b → Inside b d → valueReadAt b d p .refusal ≡ 0 → ValueAt b d p (valueReadAt b d p)
 value-sound b d p h inner z = elim (ℕ-discrete (getD b p 0) 0x53) [
   | yes e ↦ text-value-sound b d p h e z
   | no n1 ↦ elim (ℕ-discrete (getD b p 0) 0x6c) [
@@ -156,18 +156,18 @@ map-as b p F g k e x = rw e x
 abbrev pub Apart : ℕ → List (List ℕ) → Map → Type 0
 Apart d keys m = fits m d × (twiceIn keys m ≡ false)
 
-entry-sound : (b : List ℕ) (d p most : ℕ) (keys : List (List ℕ)) → Bytes b → Inside b d → getD b p 0 ≡ 0x55 → (textStop b p ≡ 0 → ⊥) → has keys (textOf b p) ≡ false → valueAt b d (textStop b p) .refusal ≡ 0
-    → entriesIn (inside b d) b keys (suc most) p .refusal ≡ 0
-    → ((q : ℕ) → q ≤ length b → entriesIn (inside b d) b (keys ++ (textOf b p ∷ [])) most q .refusal ≡ 0 → MapAt b q (Apart d (keys ++ (textOf b p ∷ []))) (entriesIn (inside b d) b (keys ++ (textOf b p ∷ [])) most q))
-    → MapAt b p (Apart d keys) (entriesIn (inside b d) b keys (suc most) p)
+entry-sound : (b : List ℕ) (d p most : ℕ) (keys : List (List ℕ)) → Bytes b → Inside b d → getD b p 0 ≡ 0x55 → (textStop b p ≡ 0 → ⊥) → has keys (textOf b p) ≡ false → valueReadAt b d (textStop b p) .refusal ≡ 0
+    → mapEntriesIn (inside b d) b keys (suc most) p .refusal ≡ 0
+    → ((q : ℕ) → q ≤ length b → mapEntriesIn (inside b d) b (keys ++ (textOf b p ∷ [])) most q .refusal ≡ 0 → MapAt b q (Apart d (keys ++ (textOf b p ∷ []))) (mapEntriesIn (inside b d) b (keys ++ (textOf b p ∷ [])) most q))
+    → MapAt b p (Apart d keys) (mapEntriesIn (inside b d) b keys (suc most) p)
 unfolding bodyOf fits twiceIn
 entry-sound b d p most keys h inner e n f y z others =
-    let v = valueAt b d (textStop b p) in
+    let v = valueReadAt b d (textStop b p) in
     let t = text-sound b p h n in
     let x = value-sound b d (textStop b p) h inner y in
     let j = entries-more (inside b d) b keys most p e n f y in
     let r = others (v .stop) (x .within) (sym (ap (λ (w : Seen). w .refusal) j) ∙ z) in
-    map-as b p (Apart d keys) (entriesIn (inside b d) b keys (suc most) p) (joined (textOf b p) v (entriesIn (inside b d) b (keys ++ (textOf b p ∷ [])) most (v .stop))) j (record {
+    map-as b p (Apart d keys) (mapEntriesIn (inside b d) b keys (suc most) p) (joined (textOf b p) v (mapEntriesIn (inside b d) b (keys ++ (textOf b p ∷ [])) most (v .stop))) j (record {
       fit = ((t .short, x .fit, r .fit .0), rw (f, x .once) (r .fit .1));
       far = omega (arith, t .far, x .far, r .far);
       within = r .within;
@@ -175,21 +175,21 @@ entry-sound b d p most keys h inner e n f y z others =
       ends = r .ends;
     })
 
-key-sound : (b : List ℕ) (d most p : ℕ) (keys : List (List ℕ)) → Bytes b → Inside b d → getD b p 0 ≡ 0x55 → (textStop b p ≡ 0 → ⊥) → entriesIn (inside b d) b keys (suc most) p .refusal ≡ 0
-    → ((q : ℕ) → q ≤ length b → entriesIn (inside b d) b (keys ++ (textOf b p ∷ [])) most q .refusal ≡ 0 → MapAt b q (Apart d (keys ++ (textOf b p ∷ []))) (entriesIn (inside b d) b (keys ++ (textOf b p ∷ [])) most q))
-    → MapAt b p (Apart d keys) (entriesIn (inside b d) b keys (suc most) p)
+key-sound : (b : List ℕ) (d most p : ℕ) (keys : List (List ℕ)) → Bytes b → Inside b d → getD b p 0 ≡ 0x55 → (textStop b p ≡ 0 → ⊥) → mapEntriesIn (inside b d) b keys (suc most) p .refusal ≡ 0
+    → ((q : ℕ) → q ≤ length b → mapEntriesIn (inside b d) b (keys ++ (textOf b p ∷ [])) most q .refusal ≡ 0 → MapAt b q (Apart d (keys ++ (textOf b p ∷ []))) (mapEntriesIn (inside b d) b (keys ++ (textOf b p ∷ [])) most q))
+    → MapAt b p (Apart d keys) (mapEntriesIn (inside b d) b keys (suc most) p)
 key-sound b d most p keys h inner e n z others = go (has keys (textOf b p)) refl
   where
-    go : (t : Bool) → has keys (textOf b p) ≡ t → MapAt b p (Apart d keys) (entriesIn (inside b d) b keys (suc most) p)
+    go : (t : Bool) → has keys (textOf b p) ≡ t → MapAt b p (Apart d keys) (mapEntriesIn (inside b d) b keys (suc most) p)
     go true t = bad-map 22 (entries-twice (inside b d) b keys most p e n t) (eqb-false 22 0 refl) z
-    go false f = elim (ℕ-discrete (valueAt b d (textStop b p) .refusal) 0) [
+    go false f = elim (ℕ-discrete (valueReadAt b d (textStop b p) .refusal) 0) [
       | no r ↦ bad-map _ (entries-bad (inside b d) b keys most p e n f r) r z
       | yes y ↦ entry-sound b d p most keys h inner e n f y z others
     ]
 
-pub entries-sound : (b : List ℕ) (d : ℕ) → Bytes b → Inside b d → (most p : ℕ) (keys : List (List ℕ)) → p ≤ length b → entriesIn (inside b d) b keys most p .refusal ≡ 0
-    → MapAt b p (Apart d keys) (entriesIn (inside b d) b keys most p)
-unfolding entriesIn bodyOf fits twiceIn
+pub entries-sound : (b : List ℕ) (d : ℕ) → Bytes b → Inside b d → (most p : ℕ) (keys : List (List ℕ)) → p ≤ length b → mapEntriesIn (inside b d) b keys most p .refusal ≡ 0
+    → MapAt b p (Apart d keys) (mapEntriesIn (inside b d) b keys most p)
+unfolding mapEntriesIn bodyOf fits twiceIn
 entries-sound b d h inner zero p keys l z = absurd (omega arith)
 entries-sound b d h inner (suc most) p keys l z = elim (ℕ-discrete (getD b p 0) 0x55) [
   | no n ↦ map-as b p _ _ _ (entries-none (inside b d) b keys most p n) (record { fit = (tt, refl); far = omega arith; within = l; stands = record { place = l; bytes = refl }; ends = n })
@@ -204,5 +204,5 @@ unfolding inside fitsValue
 inside-sound b h zero q l z = absurd (omega arith)
 inside-sound b h (suc d) q l z = entries-sound b d h (inside-sound b h d) (suc (length b)) (q + 1) [] (omega arith) z
 
-pub sound : (b : List ℕ) (d p : ℕ) → Bytes b → p ≤ length b → readAt b d p .refusal ≡ 0 → MapAt b p (Apart d []) (readAt b d p)
+pub sound : (b : List ℕ) (d p : ℕ) → Bytes b → p ≤ length b → mapReadAt b d p .refusal ≡ 0 → MapAt b p (Apart d []) (mapReadAt b d p)
 sound b d p h l z = entries-sound b d h (inside-sound b h d) (suc (length b)) p [] l z

@@ -17,7 +17,7 @@ use Rattle.format.proofs.Tests.{one-here, one-skip, one-none, one-last}
 use Rattle.map.specs.Map.{Value, text, number, map, Map, empty, entry, has}
 use Rattle.map.proofs.Laws.{length-part}
 use Rattle.map.proofs.KeyLaws.{part-cons, part-none}
-use Rattle.map_reader.specs.Read.{Bytes, textStop, textOf, says, saysMore, otherWrong, noText, Seen, SeenValue, refused, stopped, closed, valueIn, keyWrong, joined, entriesIn, inside, readAt, valueAt}
+use Rattle.map_reader.specs.Read.{Bytes, textStop, textOf, says, saysMore, otherWrong, noTextRefusal, Seen, SeenValue, refused, stopped, closedMap, valueIn, keyWrong, joined, mapEntriesIn, inside, mapReadAt, valueReadAt}
 use Rattle.map_reader.proofs.Places.{more-is, part-bytes}
 
 -- a text
@@ -132,16 +132,16 @@ other-some b p = go (saysMore b p)
     go false e = absurd (omega arith)
 
 module _ (b : List ℕ) (p : ℕ) {mark : ℕ} (m : mark ≡ getD b p 0) where
-  pub text-short : mark ≡ 0x55 → (23 ≡ noText b p) × (0 < 23)
-  unfolding noText
+  pub text-short : mark ≡ 0x55 → (23 ≡ noTextRefusal b p) × (0 < 23)
+  unfolding noTextRefusal
   text-short e = (rw (eq-eqb (getD b p 0) 0x55 (sym m ∙ e)), omega arith)
 
-  pub text-other : {r : ℕ} → (mark ≡ 0x55 → ⊥) → r ≡ otherWrong b p → r ≡ noText b p
-  unfolding noText
+  pub text-other : {r : ℕ} → (mark ≡ 0x55 → ⊥) → r ≡ otherWrong b p → r ≡ noTextRefusal b p
+  unfolding noTextRefusal
   text-other n e = rw (ne-eqb (getD b p 0) 0x55 (λ q. n (m ∙ q)), e)
 
-pub text-some : (b : List ℕ) (p : ℕ) → noText b p ≡ 0 → ⊥
-unfolding noText
+pub text-some : (b : List ℕ) (p : ℕ) → noTextRefusal b p ≡ 0 → ⊥
+unfolding noTextRefusal
 text-some b p = go (eqb (getD b p 0) 0x55)
   where
     go : (t : Bool) → cond t 23 (otherWrong b p) ≡ 0 → ⊥
@@ -150,29 +150,29 @@ text-some b p = go (eqb (getD b p 0) 0x55)
 
 -- a value, by its mark
 module _ (b : List ℕ) (d p : ℕ) {mark : ℕ} (m : mark ≡ getD b p 0) where
-  pub value-text : {s : ℕ} → mark ≡ 0x53 → s ≡ textStop b (p + 1) → (s ≡ 0 → ⊥) → valueAt b d p ≡ record { value = text (textOf b (p + 1)); stop = s; refusal = 0 }
+  pub value-text : {s : ℕ} → mark ≡ 0x53 → s ≡ textStop b (p + 1) → (s ≡ 0 → ⊥) → valueReadAt b d p ≡ record { value = text (textOf b (p + 1)); stop = s; refusal = 0 }
   unfolding valueIn
   value-text e s n = rw (eq-eqb (getD b p 0) 0x53 (sym m ∙ e), ne-eqb (textStop b (p + 1)) 0 (λ z. n (s ∙ z)), s)
 
-  pub value-no-text : {s r : ℕ} → mark ≡ 0x53 → s ≡ textStop b (p + 1) → s ≡ 0 → r ≡ noText b (p + 1) → valueAt b d p ≡ refused r (p + 1)
+  pub value-no-text : {s r : ℕ} → mark ≡ 0x53 → s ≡ textStop b (p + 1) → s ≡ 0 → r ≡ noTextRefusal b (p + 1) → valueReadAt b d p ≡ refused r (p + 1)
   unfolding valueIn
   value-no-text e s z er = rw (eq-eqb (getD b p 0) 0x53 (sym m ∙ e), eq-eqb (textStop b (p + 1)) 0 (sym s ∙ z), er)
 
   module _ (n1 : mark ≡ 0x53 → ⊥) where
-    pub value-number : mark ≡ 0x6c → p + 5 ≤ length b → valueAt b d p ≡ record { value = number (numberOf (part b (p + 1) 4)); stop = p + 5; refusal = 0 }
+    pub value-number : mark ≡ 0x6c → p + 5 ≤ length b → valueReadAt b d p ≡ record { value = number (numberOf (part b (p + 1) 4)); stop = p + 5; refusal = 0 }
     unfolding valueIn
     value-number e h = rw (ne-eqb (getD b p 0) 0x53 (λ q. n1 (m ∙ q)), eq-eqb (getD b p 0) 0x6c (sym m ∙ e), le-leb (p + 5) (length b) h)
 
-    pub value-no-number : mark ≡ 0x6c → length b < p + 5 → valueAt b d p ≡ refused 23 p
+    pub value-no-number : mark ≡ 0x6c → length b < p + 5 → valueReadAt b d p ≡ refused 23 p
     unfolding valueIn
     value-no-number e h = rw (ne-eqb (getD b p 0) 0x53 (λ q. n1 (m ∙ q)), eq-eqb (getD b p 0) 0x6c (sym m ∙ e), lt-leb (p + 5) (length b) h)
 
     module _ (n2 : mark ≡ 0x6c → ⊥) where
-      pub value-none : (mark ≡ 0x7b → ⊥) → valueAt b d p ≡ refused 23 p
+      pub value-none : (mark ≡ 0x7b → ⊥) → valueReadAt b d p ≡ refused 23 p
       unfolding valueIn
       value-none n3 = rw (ne-eqb (getD b p 0) 0x53 (λ q. n1 (m ∙ q)), ne-eqb (getD b p 0) 0x6c (λ q. n2 (m ∙ q)), ne-eqb (getD b p 0) 0x7b (λ q. n3 (m ∙ q)))
 
-      pub value-map : mark ≡ 0x7b → valueAt b d p ≡ closed b (inside b d p)
+      pub value-map : mark ≡ 0x7b → valueReadAt b d p ≡ closedMap b (inside b d p)
       unfolding valueIn
       value-map e = rw (ne-eqb (getD b p 0) 0x53 (λ q. n1 (m ∙ q)), ne-eqb (getD b p 0) 0x6c (λ q. n2 (m ∙ q)), eq-eqb (getD b p 0) 0x7b (sym m ∙ e))
 
@@ -181,65 +181,65 @@ pub inside-none : (b : List ℕ) (d p : ℕ) → d ≡ 0 → inside b d p ≡ st
 unfolding inside
 inside-none b d p e = rw e
 
-pub inside-is : (b : List ℕ) (d p : ℕ) → (d ≡ 0 → ⊥) → inside b d p ≡ readAt b (d - 1) (p + 1)
+pub inside-is : (b : List ℕ) (d p : ℕ) → (d ≡ 0 → ⊥) → inside b d p ≡ mapReadAt b (d - 1) (p + 1)
 unfolding inside
 inside-is b zero p n = absurd (n refl)
 inside-is b (suc d) p n = rw sub-one
 
 module _ (b : List ℕ) (g : Seen) {r s : ℕ} (er : r ≡ g .refusal) (es : s ≡ g .stop) where
-  pub closed-refused : (r ≡ 0 → ⊥) → closed b g ≡ refused r s
-  unfolding closed
+  pub closed-refused : (r ≡ 0 → ⊥) → closedMap b g ≡ refused r s
+  unfolding closedMap
   closed-refused n = rw (er, es, ne-eqb (g .refusal) 0 (λ q. n (er ∙ q)))
 
-  pub closed-open : {mark x : ℕ} → r ≡ 0 → mark ≡ getD b s 0 → (mark ≡ 0x7d → ⊥) → x ≡ otherWrong b s → closed b g ≡ refused x s
-  unfolding closed
+  pub closed-open : {mark x : ℕ} → r ≡ 0 → mark ≡ getD b s 0 → (mark ≡ 0x7d → ⊥) → x ≡ otherWrong b s → closedMap b g ≡ refused x s
+  unfolding closedMap
   closed-open z m n e = rw (eq-eqb (g .refusal) 0 (sym er ∙ z), ne-eqb (getD b (g .stop) 0) 0x7d (λ q. n (m ∙ ap (λ k. getD b k 0) es ∙ q)), e, es)
 
-  pub closed-yes : {mark : ℕ} → r ≡ 0 → mark ≡ getD b s 0 → mark ≡ 0x7d → closed b g ≡ record { value = map (g .map); stop = s + 1; refusal = 0 }
-  unfolding closed
+  pub closed-yes : {mark : ℕ} → r ≡ 0 → mark ≡ getD b s 0 → mark ≡ 0x7d → closedMap b g ≡ record { value = map (g .map); stop = s + 1; refusal = 0 }
+  unfolding closedMap
   closed-yes z m e = rw (eq-eqb (g .refusal) 0 (sym er ∙ z), eq-eqb (getD b (g .stop) 0) 0x7d (sym (ap (λ k. getD b k 0) es) ∙ sym m ∙ e), es)
 
 module _ (b : List ℕ) (d p : ℕ) {mark : ℕ} (m : mark ≡ getD b p 0) (n1 : mark ≡ 0x53 → ⊥) (n2 : mark ≡ 0x6c → ⊥) (e : mark ≡ 0x7b) where
-  pub map-deep : d ≡ 0 → valueAt b d p ≡ refused 20 p
-  unfolding closed
-  map-deep z = value-map b d p m n1 n2 e ∙ ap (closed b) (inside-none b d p z)
+  pub map-deep : d ≡ 0 → valueReadAt b d p ≡ refused 20 p
+  unfolding closedMap
+  map-deep z = value-map b d p m n1 n2 e ∙ ap (closedMap b) (inside-none b d p z)
 
-  module _ (n : d ≡ 0 → ⊥) {r s : ℕ} (er : r ≡ readAt b (d - 1) (p + 1) .refusal) (es : s ≡ readAt b (d - 1) (p + 1) .stop) where
-    pub map-here : valueAt b d p ≡ closed b (readAt b (d - 1) (p + 1))
-    map-here = value-map b d p m n1 n2 e ∙ ap (closed b) (inside-is b d p n)
+  module _ (n : d ≡ 0 → ⊥) {r s : ℕ} (er : r ≡ mapReadAt b (d - 1) (p + 1) .refusal) (es : s ≡ mapReadAt b (d - 1) (p + 1) .stop) where
+    pub map-here : valueReadAt b d p ≡ closedMap b (mapReadAt b (d - 1) (p + 1))
+    map-here = value-map b d p m n1 n2 e ∙ ap (closedMap b) (inside-is b d p n)
 
-    pub map-refused : (r ≡ 0 → ⊥) → valueAt b d p ≡ refused r s
+    pub map-refused : (r ≡ 0 → ⊥) → valueReadAt b d p ≡ refused r s
     map-refused q = map-here ∙ closed-refused b _ er es q
 
-    pub map-open : {k x : ℕ} → r ≡ 0 → k ≡ getD b s 0 → (k ≡ 0x7d → ⊥) → x ≡ otherWrong b s → valueAt b d p ≡ refused x s
+    pub map-open : {k x : ℕ} → r ≡ 0 → k ≡ getD b s 0 → (k ≡ 0x7d → ⊥) → x ≡ otherWrong b s → valueReadAt b d p ≡ refused x s
     map-open z k q f = map-here ∙ closed-open b _ er es z k q f
 
-    pub map-closed : {k : ℕ} → r ≡ 0 → k ≡ getD b s 0 → k ≡ 0x7d → valueAt b d p ≡ record { value = map (readAt b (d - 1) (p + 1) .map); stop = s + 1; refusal = 0 }
+    pub map-closed : {k : ℕ} → r ≡ 0 → k ≡ getD b s 0 → k ≡ 0x7d → valueReadAt b d p ≡ record { value = map (mapReadAt b (d - 1) (p + 1) .map); stop = s + 1; refusal = 0 }
     map-closed z k q = map-here ∙ closed-yes b _ er es z k q
 
 -- entries: nothing more at p, or a text, and then a value
 module _ (inner : ℕ → Seen) (b : List ℕ) (keys : List (List ℕ)) (most p : ℕ) where
-  pub entries-none : (getD b p 0 ≡ 0x55 → ⊥) → entriesIn inner b keys (suc most) p ≡ record { map = empty; stop = p; refusal = 0 }
-  unfolding entriesIn
+  pub entries-none : (getD b p 0 ≡ 0x55 → ⊥) → mapEntriesIn inner b keys (suc most) p ≡ record { map = empty; stop = p; refusal = 0 }
+  unfolding mapEntriesIn
   entries-none n = rw (ne-eqb (getD b p 0) 0x55 n)
 
   module _ (e : getD b p 0 ≡ 0x55) where
-    pub entries-cut : textStop b p ≡ 0 → entriesIn inner b keys (suc most) p ≡ stopped 23 p
-    unfolding entriesIn keyWrong
+    pub entries-cut : textStop b p ≡ 0 → mapEntriesIn inner b keys (suc most) p ≡ stopped 23 p
+    unfolding mapEntriesIn keyWrong
     entries-cut z = rw (eq-eqb (getD b p 0) 0x55 e, eq-eqb (textStop b p) 0 z)
 
     module _ (n : textStop b p ≡ 0 → ⊥) where
-      pub entries-twice : has keys (textOf b p) ≡ true → entriesIn inner b keys (suc most) p ≡ stopped 22 p
-      unfolding entriesIn keyWrong
+      pub entries-twice : has keys (textOf b p) ≡ true → mapEntriesIn inner b keys (suc most) p ≡ stopped 22 p
+      unfolding mapEntriesIn keyWrong
       entries-twice t = rw (eq-eqb (getD b p 0) 0x55 e, ne-eqb (textStop b p) 0 n, t)
 
       module _ (f : has keys (textOf b p) ≡ false) where
         pub entries-bad : (valueIn inner b (textStop b p) .refusal ≡ 0 → ⊥)
-            → entriesIn inner b keys (suc most) p ≡ stopped (valueIn inner b (textStop b p) .refusal) (valueIn inner b (textStop b p) .stop)
-        unfolding entriesIn keyWrong
+            → mapEntriesIn inner b keys (suc most) p ≡ stopped (valueIn inner b (textStop b p) .refusal) (valueIn inner b (textStop b p) .stop)
+        unfolding mapEntriesIn keyWrong
         entries-bad q = rw (eq-eqb (getD b p 0) 0x55 e, ne-eqb (textStop b p) 0 n, f, ne-eqb (valueIn inner b (textStop b p) .refusal) 0 q)
 
-        pub entries-more : valueIn inner b (textStop b p) .refusal ≡ 0 → entriesIn inner b keys (suc most) p
-            ≡ joined (textOf b p) (valueIn inner b (textStop b p)) (entriesIn inner b (keys ++ (textOf b p ∷ [])) most (valueIn inner b (textStop b p) .stop))
-        unfolding entriesIn keyWrong
+        pub entries-more : valueIn inner b (textStop b p) .refusal ≡ 0 → mapEntriesIn inner b keys (suc most) p
+            ≡ joined (textOf b p) (valueIn inner b (textStop b p)) (mapEntriesIn inner b (keys ++ (textOf b p ∷ [])) most (valueIn inner b (textStop b p) .stop))
+        unfolding mapEntriesIn keyWrong
         entries-more q = rw (eq-eqb (getD b p 0) 0x55 e, ne-eqb (textStop b p) 0 n, f, eq-eqb (valueIn inner b (textStop b p) .refusal) 0 q)

@@ -27,29 +27,29 @@ fifthOf (number n) = 0
 fifthOf (map m) = 0
 
 -- the row of an entry whose key stands at `key`, and whose value stands at q
-abbrev pub rowOf : ℕ → ℕ → Value → ℕ → List ℕ
-rowOf key len v q = kindOf v ∷ key ∷ len ∷ fourthOf v q ∷ fifthOf v ∷ []
+abbrev pub entryRow : ℕ → ℕ → Value → ℕ → List ℕ
+entryRow key len v q = kindOf v ∷ key ∷ len ∷ fourthOf v q ∷ fifthOf v ∷ []
 
 -- the rows of a value's entries, where it is a map; and of a map's entries, whose body stands at p
 unfoldable mutual
   pub innerRows : Value → ℕ → List ℕ
   innerRows (text t) q = []
   innerRows (number n) q = []
-  innerRows (map m) q = rowsOf m (q + 1)
+  innerRows (map m) q = mapRows m (q + 1)
 
-  pub rowsOf : Map → ℕ → List ℕ
-  rowsOf empty p = []
-  rowsOf (entry k v m) p =
+  pub mapRows : Map → ℕ → List ℕ
+  mapRows empty p = []
+  mapRows (entry k v m) p =
       let q = p + length (textBytes k) in
-      rowOf (p + 2) (length k) v q ++ (innerRows v q ++ rowsOf m (q + length (valueBytes v)))
+      entryRow (p + 2) (length k) v q ++ (innerRows v q ++ mapRows m (q + length (valueBytes v)))
 
 -- how many entries a map has in all, those of maps inside it too
 unfoldable mutual
   pub sizeValue : Value → ℕ
   sizeValue (text t) = 0
   sizeValue (number n) = 0
-  sizeValue (map m) = sizeOf m
+  sizeValue (map m) = entryCount m
 
-  pub sizeOf : Map → ℕ
-  sizeOf empty = 0
-  sizeOf (entry k v m) = 1 + sizeValue v + sizeOf m
+  pub entryCount : Map → ℕ
+  entryCount empty = 0
+  entryCount (entry k v m) = 1 + sizeValue v + entryCount m

@@ -38,8 +38,8 @@ saysMore b p =
 unfoldable pub otherWrong : List ℕ → ℕ → ℕ
 otherWrong b p = cond (saysMore b p) 21 23
 
-unfoldable pub noText : List ℕ → ℕ → ℕ
-noText b p = cond (eqb (getD b p 0) 0x55) 23 (otherWrong b p)
+unfoldable pub noTextRefusal : List ℕ → ℕ → ℕ
+noTextRefusal b p = cond (eqb (getD b p 0) 0x55) 23 (otherWrong b p)
 
 -- the entries that were read and the place after them, or a refusal and the wrong place
 pub record Seen : Type 0 where
@@ -60,8 +60,8 @@ abbrev pub stopped : ℕ → ℕ → Seen
 stopped n p = record { map = empty; stop = p; refusal = n }
 
 -- a map's value, whose entries are g: a brace closes it
-unfoldable pub closed : List ℕ → Seen → SeenValue
-closed b g =
+unfoldable pub closedMap : List ℕ → Seen → SeenValue
+closedMap b g =
     cond (eqb (g .refusal) 0)
     (cond (eqb (getD b (g .stop) 0) 0x7d) (record { value = map (g .map); stop = g .stop + 1; refusal = 0 }) (refused (otherWrong b (g .stop)) (g .stop)))
     (refused (g .refusal) (g .stop))
@@ -70,9 +70,9 @@ closed b g =
 unfoldable pub valueIn : (ℕ → Seen) → List ℕ → ℕ → SeenValue
 valueIn inner b p =
     cond (eqb (getD b p 0) 0x53)
-    (cond (eqb (textStop b (p + 1)) 0) (refused (noText b (p + 1)) (p + 1)) (record { value = text (textOf b (p + 1)); stop = textStop b (p + 1); refusal = 0 }))
+    (cond (eqb (textStop b (p + 1)) 0) (refused (noTextRefusal b (p + 1)) (p + 1)) (record { value = text (textOf b (p + 1)); stop = textStop b (p + 1); refusal = 0 }))
     (cond (eqb (getD b p 0) 0x6c) (cond (leb (p + 5) (length b)) (record { value = number (numberOf (part b (p + 1) 4)); stop = p + 5; refusal = 0 }) (refused 23 p))
-    (cond (eqb (getD b p 0) 0x7b) (closed b (inner p))
+    (cond (eqb (getD b p 0) 0x7b) (closedMap b (inner p))
     (refused 23 p)))
 
 -- what is wrong with the key at p, behind entries with these keys
@@ -84,23 +84,23 @@ abbrev pub joined : List ℕ → SeenValue → Seen → Seen
 joined key v rest = record { map = entry key (v .value) (rest .map); stop = rest .stop; refusal = rest .refusal }
 
 -- entries from p on, behind entries with these keys, at most `most`
-unfoldable pub entriesIn : (ℕ → Seen) → List ℕ → List (List ℕ) → ℕ → ℕ → Seen
-entriesIn inner b keys zero p = stopped 23 p
-entriesIn inner b keys (suc most) p =
+unfoldable pub mapEntriesIn : (ℕ → Seen) → List ℕ → List (List ℕ) → ℕ → ℕ → Seen
+mapEntriesIn inner b keys zero p = stopped 23 p
+mapEntriesIn inner b keys (suc most) p =
     let v = valueIn inner b (textStop b p) in
     cond (eqb (getD b p 0) 0x55)
     (cond (eqb (keyWrong b keys p) 0)
-    (cond (eqb (v .refusal) 0) (joined (textOf b p) v (entriesIn inner b (keys ++ (textOf b p ∷ [])) most (v .stop))) (stopped (v .refusal) (v .stop)))
+    (cond (eqb (v .refusal) 0) (joined (textOf b p) v (mapEntriesIn inner b (keys ++ (textOf b p ∷ [])) most (v .stop))) (stopped (v .refusal) (v .stop)))
     (stopped (keyWrong b keys p) p))
     (record { map = empty; stop = p; refusal = 0 })
 
 -- the map whose brace stands at p, inside a map that may nest d deep: with none left, one more is too deep
 unfoldable pub inside : List ℕ → ℕ → ℕ → Seen
 inside b zero p = stopped 20 p
-inside b (suc d) p = entriesIn (inside b d) b [] (suc (length b)) (p + 1)
+inside b (suc d) p = mapEntriesIn (inside b d) b [] (suc (length b)) (p + 1)
 
-abbrev pub readAt : List ℕ → ℕ → ℕ → Seen
-readAt b d p = entriesIn (inside b d) b [] (suc (length b)) p
+abbrev pub mapReadAt : List ℕ → ℕ → ℕ → Seen
+mapReadAt b d p = mapEntriesIn (inside b d) b [] (suc (length b)) p
 
-abbrev pub valueAt : List ℕ → ℕ → ℕ → SeenValue
-valueAt b d p = valueIn (inside b d) b p
+abbrev pub valueReadAt : List ℕ → ℕ → ℕ → SeenValue
+valueReadAt b d p = valueIn (inside b d) b p

@@ -4,8 +4,8 @@ ghost use mathlib.Core.List.{[], _∷_};
 ghost use Prim.Native.Nat.{_+_, _*_, _<_, _≤_, _^_};
 ghost use lib.ListN.{length, getD};
 ghost use Rattle.wire.specs.Wire.{Room, Wrote};
-ghost use Rattle.map_reader.specs.Read.{readAt, valueAt};
-ghost use Rattle.map_reader.specs.Back.{rowOf, rowsOf, countOf};
+ghost use Rattle.map_reader.specs.Read.{mapReadAt, valueReadAt};
+ghost use Rattle.map_reader.specs.Back.{entryRow, mapRows, countOf};
 use crate::get::byte_at;
 use crate::get::text_stop;
 
@@ -31,9 +31,9 @@ fn put_row(rows: &mut [u32], k: usize, kind: u32, key: usize, len: usize, x: usi
 
 // Row k, of a text or a number at q. It answers the place after the value.
 fn fill_plain(b: &[u8], q: usize, key: usize, len: usize, rows: &mut [u32], k: usize) -> usize
-    requires { ⌜ (valueAt (now b) 0 q .refusal ≡ 0) × (length (now b) < 2 ^ 32) × (key < 2 ^ 32) × (len < 2 ^ 32) × (5 * k + 5 ≤ length (now rows)) ⌝ }
-    ensures { λ r. ⌜ (r ≡ valueAt (now (b .entry)) 0 q .stop)
-        × Wrote (now (rows .entry)) (now (rows .exit)) (5 * k) (5 * k + 5) (rowOf key len (valueAt (now (b .entry)) 0 q .value) q) ⌝ }
+    requires { ⌜ (valueReadAt (now b) 0 q .refusal ≡ 0) × (length (now b) < 2 ^ 32) × (key < 2 ^ 32) × (len < 2 ^ 32) × (5 * k + 5 ≤ length (now rows)) ⌝ }
+    ensures { λ r. ⌜ (r ≡ valueReadAt (now (b .entry)) 0 q .stop)
+        × Wrote (now (rows .entry)) (now (rows .exit)) (5 * k) (5 * k + 5) (entryRow key len (valueReadAt (now (b .entry)) 0 q .value) q) ⌝ }
 {
     if byte_at(b, q) == 0x53 {
         let n = byte_at(b, q + 2) as usize;
@@ -46,11 +46,11 @@ fn fill_plain(b: &[u8], q: usize, key: usize, len: usize, rows: &mut [u32], k: u
 
 // The rows of the entries from `at` on, from row i on.
 pub fn fill_map(b: &[u8], at: usize, depth: usize, rows: &mut [u32], i: usize) -> Filled
-    requires { ⌜ (readAt (now b) depth at .refusal ≡ 0) × (at ≤ length (now b)) × (length (now b) < 2 ^ 32)
-        × Room (now rows) (5 * i) (rowsOf (readAt (now b) depth at .map) at) ⌝ }
-    ensures { λ r. ⌜ (r .stop ≡ readAt (now (b .entry)) depth at .stop)
-        × (r .count ≡ countOf (readAt (now (b .entry)) depth at .map)) × (r .count ≤ length (now (b .entry)))
-        × Wrote (now (rows .entry)) (now (rows .exit)) (5 * i) (5 * r .next) (rowsOf (readAt (now (b .entry)) depth at .map) at) ⌝ }
+    requires { ⌜ (mapReadAt (now b) depth at .refusal ≡ 0) × (at ≤ length (now b)) × (length (now b) < 2 ^ 32)
+        × Room (now rows) (5 * i) (mapRows (mapReadAt (now b) depth at .map) at) ⌝ }
+    ensures { λ r. ⌜ (r .stop ≡ mapReadAt (now (b .entry)) depth at .stop)
+        × (r .count ≡ countOf (mapReadAt (now (b .entry)) depth at .map)) × (r .count ≤ length (now (b .entry)))
+        × Wrote (now (rows .entry)) (now (rows .exit)) (5 * i) (5 * r .next) (mapRows (mapReadAt (now (b .entry)) depth at .map) at) ⌝ }
 {
     let mut p = at;
     let mut k = i;

@@ -2,7 +2,7 @@
 ghost use mathlib.Core.Path.{_≡_};
 ghost use Prim.Native.Nat.{_+_, _<_, _≤_};
 ghost use lib.ListN.{length, getD};
-ghost use Rattle.map_reader.specs.Read.{textStop, says, saysMore, otherWrong, noText};
+ghost use Rattle.map_reader.specs.Read.{textStop, says, saysMore, otherWrong, noTextRefusal};
 use format::refusal;
 
 // The byte at a place; 0 behind the last.
@@ -89,7 +89,7 @@ pub fn other_wrong(b: &[u8], p: usize) -> u8
 
 // What is wrong where a text should be and is not.
 pub fn no_text(b: &[u8], p: usize) -> u8
-    ensures { λ r. ⌜ (r ≡ noText (now (b .entry)) p) × (0 < r) ⌝ }
+    ensures { λ r. ⌜ (r ≡ noTextRefusal (now (b .entry)) p) × (0 < r) ⌝ }
 {
     if byte_at(b, p) == 0x55 {
         return refusal::BAD_BODY;

@@ -2,9 +2,9 @@
 ghost use mathlib.Core.Path.{_≡_};
 ghost use Prim.Native.Nat.{_+_, _<_, _≤_};
 ghost use lib.ListN.{length};
-ghost use Rattle.map_reader.specs.Read.{valueAt, readAt};
-ghost use Rattle.map_reader.specs.Back.{sizeValue, sizeOf};
-ghost use Rattle.map_reader.specs.Answer.{wholeMap, ReadOutcome};
+ghost use Rattle.map_reader.specs.Read.{valueReadAt, mapReadAt};
+ghost use Rattle.map_reader.specs.Back.{sizeValue, entryCount};
+ghost use Rattle.map_reader.specs.Answer.{wholeMap, ReadMapOutcome};
 ghost use Rattle.map_reader.specs.Inner.{Whole};
 use crate::fill::fill_map;
 use crate::get::byte_at;
@@ -46,8 +46,8 @@ fn well(stop: usize, entries: usize) -> Read
 // The value at p. Its maps may nest `depth` deep, itself counted.
 pub fn read_value(b: &[u8], p: usize, depth: usize) -> Read
     requires { ⌜ p ≤ length (now b) ⌝ }
-    ensures { λ r. ⌜ (r .refusal ≡ valueAt (now (b .entry)) depth p .refusal) × (r .stop ≡ valueAt (now (b .entry)) depth p .stop)
-        × (r .refusal ≡ 0 → (p + r .entries < r .stop) × (r .stop ≤ length (now (b .entry))) × (r .entries ≡ sizeValue (valueAt (now (b .entry)) depth p .value))) ⌝ }
+    ensures { λ r. ⌜ (r .refusal ≡ valueReadAt (now (b .entry)) depth p .refusal) × (r .stop ≡ valueReadAt (now (b .entry)) depth p .stop)
+        × (r .refusal ≡ 0 → (p + r .entries < r .stop) × (r .stop ≤ length (now (b .entry))) × (r .entries ≡ sizeValue (valueReadAt (now (b .entry)) depth p .value))) ⌝ }
 {
     let mark = byte_at(b, p);
     if mark == 0x53 {
@@ -82,8 +82,8 @@ pub fn read_value(b: &[u8], p: usize, depth: usize) -> Read
 // The entries from `at` on, as far as there are any.
 pub fn read_map(b: &[u8], at: usize, depth: usize) -> Read
     requires { ⌜ at ≤ length (now b) ⌝ }
-    ensures { λ r. ⌜ (r .refusal ≡ readAt (now (b .entry)) depth at .refusal) × (r .stop ≡ readAt (now (b .entry)) depth at .stop)
-        × (r .refusal ≡ 0 → (at + r .entries ≤ r .stop) × (r .stop ≤ length (now (b .entry))) × (r .entries ≡ sizeOf (readAt (now (b .entry)) depth at .map))) ⌝ }
+    ensures { λ r. ⌜ (r .refusal ≡ mapReadAt (now (b .entry)) depth at .refusal) × (r .stop ≡ mapReadAt (now (b .entry)) depth at .stop)
+        × (r .refusal ≡ 0 → (at + r .entries ≤ r .stop) × (r .stop ≤ length (now (b .entry))) × (r .entries ≡ entryCount (mapReadAt (now (b .entry)) depth at .map))) ⌝ }
 {
     let mut p = at;
     let mut n: usize = 0;
@@ -130,7 +130,7 @@ fn read_whole(b: &[u8]) -> Read
 
 // The entries of a body, five cells each, with their texts where they stand in the body.
 pub fn read_body(b: &[u8], rows: &mut [u32]) -> MapRead
-    ensures { λ r. ⌜ ReadOutcome (now (b .entry)) (now (rows .entry)) (now (rows .exit)) r ⌝ }
+    ensures { λ r. ⌜ ReadMapOutcome (now (b .entry)) (now (rows .entry)) (now (rows .exit)) r ⌝ }
 {
     let g = read_whole(b);
     if g.refusal != 0 {

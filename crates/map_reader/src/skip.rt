@@ -2,14 +2,14 @@
 ghost use mathlib.Core.Path.{_≡_};
 ghost use Prim.Native.Nat.{_+_, _<_, _≤_};
 ghost use lib.ListN.{length};
-ghost use Rattle.map_reader.specs.Read.{valueAt, readAt};
+ghost use Rattle.map_reader.specs.Read.{valueReadAt, mapReadAt};
 use crate::get::byte_at;
 use crate::get::text_stop;
 
 // The place after the value at p.
 pub fn skip_value(b: &[u8], p: usize, depth: usize) -> usize
-    requires { ⌜ valueAt (now b) depth p .refusal ≡ 0 ⌝ }
-    ensures { λ r. ⌜ (r ≡ valueAt (now (b .entry)) depth p .stop) × (p < r) × (r ≤ length (now (b .entry))) ⌝ }
+    requires { ⌜ valueReadAt (now b) depth p .refusal ≡ 0 ⌝ }
+    ensures { λ r. ⌜ (r ≡ valueReadAt (now (b .entry)) depth p .stop) × (p < r) × (r ≤ length (now (b .entry))) ⌝ }
 {
     let mark = byte_at(b, p);
     if mark == 0x53 {
@@ -23,8 +23,8 @@ pub fn skip_value(b: &[u8], p: usize, depth: usize) -> usize
 
 // The place after the entries from `at` on.
 pub fn skip_map(b: &[u8], at: usize, depth: usize) -> usize
-    requires { ⌜ (readAt (now b) depth at .refusal ≡ 0) × (at ≤ length (now b)) ⌝ }
-    ensures { λ r. ⌜ (r ≡ readAt (now (b .entry)) depth at .stop) × (at ≤ r) × (r ≤ length (now (b .entry))) ⌝ }
+    requires { ⌜ (mapReadAt (now b) depth at .refusal ≡ 0) × (at ≤ length (now b)) ⌝ }
+    ensures { λ r. ⌜ (r ≡ mapReadAt (now (b .entry)) depth at .stop) × (at ≤ r) × (r ≤ length (now (b .entry))) ⌝ }
 {
     let mut p = at;
     while byte_at(b, p) == 0x55 {

@@ -17,7 +17,7 @@ use Rattle.layout.specs.declared.columns.Column.{Column}
 use Rattle.layout.specs.declared.columns.Family.{Family}
 use Rattle.layout.proofs.Laws.{each, both, both-left, both-right, count-is}
 use Rattle.names.specs.Bytes.{bytes}
-use Rattle.names.specs.Names.{Naming, unsigned, calledIn, noColumn, described}
+use Rattle.names.specs.Names.{Naming, unsignedCells, calledIn, noColumn, described}
 use Rattle.names.specs.Inner.{firstLine, linesFrom, line, calledAs, calledOf}
 use Rattle.names.specs.declared.columns.Called.{Called}
 use Rattle.names.specs.declared.columns.Described.{Described}
@@ -113,12 +113,12 @@ lines-fit : (f : Family) → T (fit 2 33 (lines f))
 unfolding lines calledIn bytes
 lines-fit = each _ (tt, tt, tt, tt, tt, tt, tt, tt)
 
-line-is : (f : Family) (n : ℕ) → n < length (columnsOf f) → line n (joined (lines f)) ≡ lineOf (getD (calledIn f) n (unsigned ""))
+line-is : (f : Family) (n : ℕ) → n < length (columnsOf f) → line n (joined (lines f)) ≡ lineOf (getD (calledIn f) n (unsignedCells ""))
 unfolding lines
 line-is f n h =
     line-joined 2 33 (lines f) n (lines-fit f)
-    ∙ getD-any (lines f) n [] (lineOf (unsigned "")) (rw length-map (rw (as-many f) at h))
-    ∙ List·getD-map lineOf (calledIn f) n (unsigned "")
+    ∙ getD-any (lines f) n [] (lineOf (unsignedCells "")) (rw length-map (rw (as-many f) at h))
+    ∙ List·getD-map lineOf (calledIn f) n (unsignedCells "")
 
 -- what a line of a family's list asks and says, where f is the family k
 module _ (f k : Family) (n : ℕ) (e : f ≡ k) (h : n < length (columnsOf f)) where

@@ -7,7 +7,7 @@ use lib.Dec.{eqb}
 use lib.ListN.{length, drop, getD}
 use Rattle.layout.specs.declared.columns.Family.{Family}
 use Rattle.names.specs.Bytes.{bytes, filled}
-use Rattle.names.specs.Names.{calledIn, unsigned}
+use Rattle.names.specs.Names.{calledIn, unsignedCells}
 use Rattle.names.specs.declared.columns.Called.{Called}
 
 -- the bytes before the first line end, or all of them
@@ -28,4 +28,4 @@ unfoldable pub calledAs : List ℕ → Called
 calledAs l = record { kind = getD l 0 0; name = filled 32 (drop 2 l) }
 
 unfoldable pub calledOf : Family → ℕ → Called
-calledOf f n = let c = getD (calledIn f) n (unsigned "") in record { kind = c .kind; name = filled 32 (bytes (c .name)) }
+calledOf f n = let c = getD (calledIn f) n (unsignedCells "") in record { kind = c .kind; name = filled 32 (bytes (c .name)) }

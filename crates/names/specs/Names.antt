@@ -18,107 +18,107 @@ pub record Naming : Type 0 where
   pub kind : ℕ
   pub name : String
 
-abbrev pub unsigned : String → Naming
-unsigned name = record { kind = 0x75; name = name }
+abbrev pub unsignedCells : String → Naming
+unsignedCells name = record { kind = 0x75; name = name }
 
-abbrev pub signed : String → Naming
-signed name = record { kind = 0x69; name = name }
+abbrev pub signedCells : String → Naming
+signedCells name = record { kind = 0x69; name = name }
 
-abbrev pub float : String → Naming
-float name = record { kind = 0x66; name = name }
+abbrev pub floatCells : String → Naming
+floatCells name = record { kind = 0x66; name = name }
 
 -- the columns of a family, in the order of its record
 unfoldable pub calledIn : Family → List Naming
 calledIn Pre =
-    unsigned "random_seed" ∷
-    unsigned "state" ∷
-    float "position_x" ∷
-    float "position_y" ∷
-    float "direction" ∷
-    float "joystick_x" ∷
-    float "joystick_y" ∷
-    float "cstick_x" ∷
-    float "cstick_y" ∷
-    float "triggers" ∷
-    unsigned "buttons" ∷
-    unsigned "buttons_physical" ∷
-    float "triggers_physical_l" ∷
-    float "triggers_physical_r" ∷
-    signed "raw_analog_x" ∷
-    float "percent" ∷
-    signed "raw_analog_y" ∷
-    signed "raw_analog_cstick_x" ∷
-    signed "raw_analog_cstick_y" ∷
+    unsignedCells "random_seed" ∷
+    unsignedCells "state" ∷
+    floatCells "position_x" ∷
+    floatCells "position_y" ∷
+    floatCells "direction" ∷
+    floatCells "joystick_x" ∷
+    floatCells "joystick_y" ∷
+    floatCells "cstick_x" ∷
+    floatCells "cstick_y" ∷
+    floatCells "triggers" ∷
+    unsignedCells "buttons" ∷
+    unsignedCells "buttons_physical" ∷
+    floatCells "triggers_physical_l" ∷
+    floatCells "triggers_physical_r" ∷
+    signedCells "raw_analog_x" ∷
+    floatCells "percent" ∷
+    signedCells "raw_analog_y" ∷
+    signedCells "raw_analog_cstick_x" ∷
+    signedCells "raw_analog_cstick_y" ∷
     []
 calledIn Post =
-    unsigned "character" ∷
-    unsigned "state" ∷
-    float "position_x" ∷
-    float "position_y" ∷
-    float "direction" ∷
-    float "percent" ∷
-    float "shield" ∷
-    unsigned "last_attack_landed" ∷
-    unsigned "combo_count" ∷
-    unsigned "last_hit_by" ∷
-    unsigned "stocks" ∷
-    float "state_age" ∷
-    unsigned "state_flags_0" ∷
-    unsigned "state_flags_1" ∷
-    unsigned "state_flags_2" ∷
-    unsigned "state_flags_3" ∷
-    unsigned "state_flags_4" ∷
-    float "misc_as" ∷
-    unsigned "airborne" ∷
-    unsigned "ground" ∷
-    unsigned "jumps" ∷
-    unsigned "l_cancel" ∷
-    unsigned "hurtbox_state" ∷
-    float "velocities_self_x_air" ∷
-    float "velocities_self_y" ∷
-    float "velocities_knockback_x" ∷
-    float "velocities_knockback_y" ∷
-    float "velocities_self_x_ground" ∷
-    float "hitlag" ∷
-    unsigned "animation_index" ∷
-    unsigned "last_hit_by_instance" ∷
-    unsigned "instance_id" ∷
+    unsignedCells "character" ∷
+    unsignedCells "state" ∷
+    floatCells "position_x" ∷
+    floatCells "position_y" ∷
+    floatCells "direction" ∷
+    floatCells "percent" ∷
+    floatCells "shield" ∷
+    unsignedCells "last_attack_landed" ∷
+    unsignedCells "combo_count" ∷
+    unsignedCells "last_hit_by" ∷
+    unsignedCells "stocks" ∷
+    floatCells "state_age" ∷
+    unsignedCells "state_flags_0" ∷
+    unsignedCells "state_flags_1" ∷
+    unsignedCells "state_flags_2" ∷
+    unsignedCells "state_flags_3" ∷
+    unsignedCells "state_flags_4" ∷
+    floatCells "misc_as" ∷
+    unsignedCells "airborne" ∷
+    unsignedCells "ground" ∷
+    unsignedCells "jumps" ∷
+    unsignedCells "l_cancel" ∷
+    unsignedCells "hurtbox_state" ∷
+    floatCells "velocities_self_x_air" ∷
+    floatCells "velocities_self_y" ∷
+    floatCells "velocities_knockback_x" ∷
+    floatCells "velocities_knockback_y" ∷
+    floatCells "velocities_self_x_ground" ∷
+    floatCells "hitlag" ∷
+    unsignedCells "animation_index" ∷
+    unsignedCells "last_hit_by_instance" ∷
+    unsignedCells "instance_id" ∷
     []
 calledIn FrameStart =
-    unsigned "random_seed" ∷
-    unsigned "scene_frame_counter" ∷
+    unsignedCells "random_seed" ∷
+    unsignedCells "scene_frame_counter" ∷
     []
 calledIn Item =
-    unsigned "type" ∷
-    unsigned "state" ∷
-    float "direction" ∷
-    float "velocity_x" ∷
-    float "velocity_y" ∷
-    float "position_x" ∷
-    float "position_y" ∷
-    unsigned "damage" ∷
-    float "timer" ∷
-    unsigned "id" ∷
-    unsigned "misc_0" ∷
-    unsigned "misc_1" ∷
-    unsigned "misc_2" ∷
-    unsigned "misc_3" ∷
-    signed "owner" ∷
-    unsigned "instance_id" ∷
+    unsignedCells "type" ∷
+    unsignedCells "state" ∷
+    floatCells "direction" ∷
+    floatCells "velocity_x" ∷
+    floatCells "velocity_y" ∷
+    floatCells "position_x" ∷
+    floatCells "position_y" ∷
+    unsignedCells "damage" ∷
+    floatCells "timer" ∷
+    unsignedCells "id" ∷
+    unsignedCells "misc_0" ∷
+    unsignedCells "misc_1" ∷
+    unsignedCells "misc_2" ∷
+    unsignedCells "misc_3" ∷
+    signedCells "owner" ∷
+    unsignedCells "instance_id" ∷
     []
 calledIn FrameEnd =
-    signed "latest_finalized_frame" ∷
+    signedCells "latest_finalized_frame" ∷
     []
 calledIn FodPlatform =
-    unsigned "platform" ∷
-    float "height" ∷
+    unsignedCells "platform" ∷
+    floatCells "height" ∷
     []
 calledIn DreamlandWhispy =
-    unsigned "direction" ∷
+    unsignedCells "direction" ∷
     []
 calledIn StadiumTransformation =
-    unsigned "event" ∷
-    unsigned "type" ∷
+    unsignedCells "event" ∷
+    unsignedCells "type" ∷
     []
 
 -- no column: 13
@@ -129,7 +129,7 @@ noColumn = record { refused = 13; width = 0; kind = 0; major = 0; minor = 0; nam
 unfoldable pub described : Family → ℕ → Described
 described f n =
     let c = getD (columnsOf f) n (col 0 0 0) in
-    let called = getD (calledIn f) n (unsigned "") in
+    let called = getD (calledIn f) n (unsignedCells "") in
     cond (ltb n (length (columnsOf f)))
     (record { refused = 0; width = c .width; kind = called .kind; major = c .major; minor = c .minor; name = filled 32 (bytes (called .name)) })
     noColumn

@@ -6,13 +6,8 @@ use mathlib.Core.List.{List, [], _∷_, _++_, map}
 use lib.Dec.{eqb}
 use lib.ListN.{take, replicate}
 use Rattle.wire.specs.Wire.{part}
-use Rattle.format.specs.Mark.{yes}
 use Rattle.format.specs.Refusal.{oneOf}
 use Rattle.game.specs.declared.start.Text.{Text}
-
--- a mark as it is written: 1 for yes, 0 for no
-abbrev pub flagOf : ℕ → ℕ
-flagOf mark = cond (yes mark) 1 0
 
 abbrev pub text : Text → List ℕ
 text t = take (t .len) (t .bytes)

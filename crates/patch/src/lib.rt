@@ -3,8 +3,9 @@ ghost use mathlib.Core.Path.{_≡_};
 ghost use mathlib.Core.Bool.{cond};
 ghost use Prim.Native.Nat.{_+_, _≤_};
 ghost use lib.ListN.{length, take, replicate};
+ghost use Rattle.format.specs.Mark.{flagOf};
 ghost use Rattle.wire.specs.Wire.{part, Wrote};
-ghost use Rattle.patch.specs.Field.{flagOf, zeroFilled};
+ghost use Rattle.patch.specs.Field.{zeroFilled};
 ghost use Rattle.patch.specs.Inner.{Patched, numberPatches, Fit};
 use game::start::Text;
 

@@ -18,10 +18,10 @@ use Rattle.head.proofs.Written.{take-past}
 use Rattle.de.specs.Walk.{run, runOf}
 use Rattle.de.specs.Cut.{eventsRead, zeroed, eventAt}
 use Rattle.grammar.proofs.Tests.{both, Or, left-is, right-is, either}
-use Rattle.found.specs.Inner.{Bytes}
-use Rattle.reading.specs.Game.{tailKind}
-use Rattle.checking.specs.Inner.{isBody, isTail}
-use Rattle.repair_kept.specs.Kept.{endingAt, Begins, Longest}
+use Rattle.read_judge.specs.Inner.{Bytes}
+use Rattle.measure.specs.Game.{tailKind}
+use Rattle.check_file.specs.Inner.{isBody, isTail}
+use Rattle.repair_kept.specs.Kept.{endingAt, ReplayUpTo, Longest}
 use Rattle.repair_kept.proofs.Field.{long-enough, zero-tail, zero-length, zero-stop, ending-tail, ending-table, zero-table, ending-length, ending-bytes, ending-stop, ending-accepted, ending-starts, first-within}
 use Rattle.repair_kept.proofs.Accepts.{early-head}
 use Rattle.repair_walk.specs.Inner.{passedFrom}
@@ -200,7 +200,7 @@ open-head f e = go (eqb (headRefusal (zeroed f)) 0) refl _ e
     go true x others e = eqb-true (headRefusal (zeroed f)) 0 x
     go false x others e = e
 
-begins-above : (f : List ℕ) → openRefusal f ≡ 0 → (p : ℕ) → Begins f p → (17 ≤ p) × (15 ≤ length f)
+begins-above : (f : List ℕ) → openRefusal f ≡ 0 → (p : ℕ) → ReplayUpTo f p → (17 ≤ p) × (15 ≤ length f)
 begins-above f o p b =
     let h = open-head f o in
     let (x, y) = first-within f h in

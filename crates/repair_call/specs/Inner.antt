@@ -6,9 +6,9 @@ use mathlib.Core.Bool.{Bool, cond, _&&_}
 use mathlib.Core.List.{List, [], _∷_, _++_}
 use lib.ListN.{length, take, drop}
 use Rattle.wire.specs.Wire.{be, part}
-use Rattle.reading.specs.Game.{tailKind}
-use Rattle.checking.specs.Inner.{isTail}
-use Rattle.repair_kept.specs.Kept.{Begins}
+use Rattle.measure.specs.Game.{tailKind}
+use Rattle.check_file.specs.Inner.{isTail}
+use Rattle.repair_kept.specs.Kept.{ReplayUpTo}
 use Rattle.repair_judge.specs.Inner.{Topped}
 use Rattle.repair_call.specs.declared.Behind.{Behind}
 
@@ -22,7 +22,7 @@ behindOf alone f p = cond (alone && isTail (drop p f)) (record { tail = tailKind
 -- a beginning whose events start at a place
 pub record Told (f spans : List ℕ) (first p : ℕ) : Type 0 where
   pub topped : Topped f spans first
-  pub begins : Begins f p
+  pub begins : ReplayUpTo f p
   pub after : first ≤ p
 
 -- the front of a file whose events end at a place

@@ -10,9 +10,9 @@ use Rattle.wire.specs.Wire.{splice}
 use Rattle.head.specs.Table.{declared, tableOf, firstPlace}
 use Rattle.de.specs.Walk.{run}
 use Rattle.de.specs.Cut.{eventsRead, zeroed}
-use Rattle.reading.specs.Game.{tailKind}
-use Rattle.checking.specs.Inner.{isTail}
-use Rattle.repair_kept.specs.Kept.{endingAt, Begins, Longest}
+use Rattle.measure.specs.Game.{tailKind}
+use Rattle.check_file.specs.Inner.{isTail}
+use Rattle.repair_kept.specs.Kept.{endingAt, ReplayUpTo, Longest}
 use Rattle.repair_judge.specs.Open.{openRefusal}
 use Rattle.repair_call.specs.declared.Repaired.{Repaired}
 
@@ -67,12 +67,12 @@ repairOf f p = record {
 -- 14, 15, 19 and 1 before a beginning is looked for; 19 where none is a replay that `read` accepts; or the longest
 pub data RepairMeasured (f : List ℕ) (m : Repaired) : Type 0 where
   early : (openRefusal f ≡ 0 → ⊥) → m ≡ unrepaired (openRefusal f) → RepairMeasured f m
-  none : openRefusal f ≡ 0 → ((p : ℕ) → Begins f p → ⊥) → m ≡ unrepaired 19 → RepairMeasured f m
+  none : openRefusal f ≡ 0 → ((p : ℕ) → ReplayUpTo f p → ⊥) → m ≡ unrepaired 19 → RepairMeasured f m
   found : openRefusal f ≡ 0 → (p : ℕ) → Longest f p → m ≡ repairOf f p → RepairMeasured f m
 
 -- so too, and 12 for an output that is too short. Where it is refused the output does not change
 pub data RepairOutcome (f given : List ℕ) (r : Repaired) (left : List ℕ) : Type 0 where
   early : (openRefusal f ≡ 0 → ⊥) → r ≡ unrepaired (openRefusal f) → left ≡ given → RepairOutcome f given r left
-  none : openRefusal f ≡ 0 → ((p : ℕ) → Begins f p → ⊥) → r ≡ unrepaired 19 → left ≡ given → RepairOutcome f given r left
+  none : openRefusal f ≡ 0 → ((p : ℕ) → ReplayUpTo f p → ⊥) → r ≡ unrepaired 19 → left ≡ given → RepairOutcome f given r left
   short : openRefusal f ≡ 0 → (p : ℕ) → Longest f p → length given < length (repairedTo f p) → r ≡ unrepaired 12 → left ≡ given → RepairOutcome f given r left
   found : openRefusal f ≡ 0 → (p : ℕ) → Longest f p → length (repairedTo f p) ≤ length given → r ≡ repairOf f p → left ≡ splice given 0 (repairedTo f p) → RepairOutcome f given r left

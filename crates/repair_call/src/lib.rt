@@ -7,9 +7,9 @@ ghost use lib.ListN.{length, drop};
 ghost use Rattle.wire.specs.Wire.{splice, Wrote};
 ghost use Rattle.repair_call.specs.Outcome.{unrepaired, repairOf, RepairMeasured, RepairOutcome};
 ghost use Rattle.repair_call.specs.Inner.{braceFor, behindOf, Told, Fits, frontOf};
-use checking::tail::is_tail;
+use check_file::tail::is_tail;
 use format::refusal::SHORT_OUTPUT;
-use reading::tail::tail_kind;
+use measure::tail::tail_kind;
 use repair_judge::judge;
 use repair_walk::pass_events;
 

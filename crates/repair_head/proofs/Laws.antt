@@ -19,7 +19,7 @@ use Rattle.head.specs.Inner.{HeadOf, Indexed}
 use Rattle.head.specs.declared.table.Head.{Head}
 use Rattle.head.proofs.Heads.{table-there, too-short, signed-is}
 use Rattle.de.specs.Cut.{zeroed}
-use Rattle.found.specs.Inner.{Bytes}
+use Rattle.read_judge.specs.Inner.{Bytes}
 use Rattle.repair_kept.proofs.Same.{byte-same}
 use Rattle.repair_kept.proofs.Field.{starts-take, zero-tail, zero-table, zero-unsigned, zero-stop}
 use Rattle.repair_head.specs.Inner.{TopOf}

@@ -15,15 +15,15 @@ use Rattle.format.specs.declared.version.Version.{Version}
 use Rattle.head.specs.Table.{stopOf, tableOf, firstPlace, spanOf, headRefusal}
 use Rattle.head.specs.Inner.{Indexed}
 use Rattle.de.specs.Cut.{eventsRead, zeroed}
-use Rattle.found.specs.Found.{opensWrong, versionSaid}
-use Rattle.found.specs.Inner.{Bytes, firstAt, opensAt, startFits}
-use Rattle.found.specs.declared.first.First.{First}
-use Rattle.found.specs.declared.first.First.the-variants.{Opens, Other}
-use Rattle.found.proofs.Laws.{not-taken, not-left}
-use Rattle.found.proofs.Opening as opening
-use Rattle.judging.proofs.Passes.{first-within}
+use Rattle.read_judge.specs.Found.{opensWrong, versionSaid}
+use Rattle.read_judge.specs.Inner.{Bytes, firstAt, opensAt, startFits}
+use Rattle.read_judge.specs.declared.first.First.{First}
+use Rattle.read_judge.specs.declared.first.First.the-variants.{Opens, Other}
+use Rattle.read_judge.proofs.StartLaws.{not-taken, not-left}
+use Rattle.read_judge.proofs.Opening as opening
+use Rattle.read_judge.proofs.Passes.{first-within}
 use Rattle.repair_scan.specs.Inner.{keptFrom}
-use Rattle.repair_kept.specs.Kept.{endingAt, Begins, Longest}
+use Rattle.repair_kept.specs.Kept.{endingAt, ReplayUpTo, Longest}
 use Rattle.repair_kept.proofs.Same.{byte-same}
 use Rattle.repair_kept.proofs.Field.{long-enough, zero-tail, zero-stop, ending-bytes, first-within as table-within}
 use Rattle.repair_kept.proofs.Longest.{no-start, none-kept, longest, at-within, begins-at}

@@ -10,9 +10,9 @@ use Rattle.format.specs.declared.version.Version.{Version}
 use Rattle.head.specs.Table.{tableOf, firstPlace, headRefusal}
 use Rattle.head.specs.Inner.{Indexed}
 use Rattle.de.specs.Cut.{zeroed}
-use Rattle.found.specs.Inner.{Bytes, firstAt}
-use Rattle.found.specs.declared.first.First.the-variants.{Opens}
-use Rattle.repair_kept.specs.Kept.{Begins, Longest}
+use Rattle.read_judge.specs.Inner.{Bytes, firstAt}
+use Rattle.read_judge.specs.declared.first.First.the-variants.{Opens}
+use Rattle.repair_kept.specs.Kept.{ReplayUpTo, Longest}
 use Rattle.repair_judge.specs.Open.{openRefusal}
 use Rattle.repair_judge.specs.declared.Judged.{Judged}
 
@@ -33,5 +33,5 @@ pub record Opening (f spans : List ℕ) (first : ℕ) (v : Version) (len : ℕ) 
 -- the answer: a number, or where events start and where those stop that are kept
 pub data Judges (f spans : List ℕ) (j : Judged) : Type 0 where
   early : (openRefusal f ≡ 0 → ⊥) → j .refused ≡ openRefusal f → Judges f spans j
-  none : openRefusal f ≡ 0 → ((q : ℕ) → Begins f q → ⊥) → j .refused ≡ 19 → Judges f spans j
+  none : openRefusal f ≡ 0 → ((q : ℕ) → ReplayUpTo f q → ⊥) → j .refused ≡ 19 → Judges f spans j
   held : openRefusal f ≡ 0 → Longest f (j .stop) → j .refused ≡ 0 → Topped f spans (j .first) → j .first ≤ j .stop → Judges f spans j

@@ -8,7 +8,7 @@ use Rattle.format.specs.Refusal.{refuse, lowest}
 use Rattle.format.specs.Version.{acceptedOf}
 use Rattle.head.specs.Table.{headRefusal}
 use Rattle.de.specs.Cut.{eventsRead, zeroed}
-use Rattle.found.specs.Found.{opensWrong, versionSaid}
+use Rattle.read_judge.specs.Found.{opensWrong, versionSaid}
 
 -- 14 or 15 of the head; 19 where the first event is not a whole GameStart of at least four bytes; 1 for the version that it says
 unfoldable pub openRefusal : List ℕ → ℕ

@@ -5,9 +5,9 @@ ghost use Rattle.repair_judge.specs.Inner.{Topped, Opening, Judges};
 use format::refusal::BAD_EVENTS;
 use format::refusal::VERSION_TOO_NEW;
 use format::version::Version;
-use found::first::First;
-use found::first::first_event;
-use found::parts::start_fits;
+use read_judge::first::First;
+use read_judge::first::first_event;
+use read_judge::parts::start_fits;
 use repair_head::open_head;
 use repair_scan::kept_from;
 

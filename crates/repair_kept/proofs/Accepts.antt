@@ -26,25 +26,24 @@ use Rattle.layout.specs.declared.columns.Family.{Family}
 use Rattle.grammar.specs.Machine.{familyOf, State, initial, closed, after, onFamily}
 use Rattle.grammar.proofs.Tests.{both}
 use Rattle.grammar.proofs.Unique.{unique}
-use Rattle.frame_scan.specs.Counts.{noTally, countedOf}
-use Rattle.frame_scan.specs.Inner.{saidAt, spanAt, takes, stops, scan, tells, tallied}
-use Rattle.frame_scan.specs.declared.Ran.{Ran}
-use Rattle.frame_scan.specs.declared.Ran.the-variants as ran
-use Rattle.frame_scan.specs.declared.tally.Tally.{Tally}
-use Rattle.outline.specs.Inner.{codesAt, endsAt}
-use Rattle.outline.specs.Listed.{listedRight}
-use Rattle.outline.specs.declared.answer.Codes.{Codes}
-use Rattle.outline.specs.declared.answer.Codes.the-variants as codes
-use Rattle.outline.specs.declared.answer.Ends.{Ends}
-use Rattle.outline.specs.declared.answer.Ends.the-variants as ended
-use Rattle.found.specs.Found.{versionOf, earlyRefusal, Found, tooBig}
-use Rattle.found.specs.Inner.{firstAt, opensAt, startFits, changes, Refuses, early, none as none-held, big}
-use Rattle.found.specs.declared.first.First.{First}
-use Rattle.found.specs.declared.first.First.the-variants.{Opens, Other}
-use Rattle.found.specs.declared.parts.Parts.{Parts}
-use Rattle.judging.specs.Inner.{countsBy, WalkDone, Headed, Started}
-use Rattle.judging.proofs.Laws.{walk-early, opens-early, new-early, none-early, counted, too-big, accepts}
-use Rattle.judging.proofs.Before.{start-wrong, codes-wrong, listed-wrong, frames-wrong, changing-wrong, ends-wrong, all-held}
+use Rattle.read_scan.specs.Counts.{noTally, countedOf}
+use Rattle.read_scan.specs.Inner.{saidAt, spanAt, takes, stops, scan, tells, tallied}
+use Rattle.read_scan.specs.declared.Ran.{Ran}
+use Rattle.read_scan.specs.declared.Ran.the-variants as ran
+use Rattle.read_scan.specs.declared.tally.Tally.{Tally}
+use Rattle.read_outline.specs.Inner.{codesAt, endsAt}
+use Rattle.read_outline.specs.Listed.{listedRight}
+use Rattle.read_outline.specs.declared.answer.Codes.{Codes}
+use Rattle.read_outline.specs.declared.answer.Codes.the-variants as codes
+use Rattle.read_outline.specs.declared.answer.Ends.{Ends}
+use Rattle.read_outline.specs.declared.answer.Ends.the-variants as ended
+use Rattle.read_judge.specs.Found.{versionOf, earlyRefusal, Found, tooBig}
+use Rattle.read_judge.specs.Inner.{firstAt, opensAt, startFits, changes, Refuses, early, none as none-held, big, countsBy, WalkDone, Headed, Started}
+use Rattle.read_judge.specs.declared.first.First.{First}
+use Rattle.read_judge.specs.declared.first.First.the-variants.{Opens, Other}
+use Rattle.read_judge.specs.declared.parts.Parts.{Parts}
+use Rattle.read_judge.proofs.Steps.{walk-early, opens-early, new-early, none-early, counted, too-big, accepts}
+use Rattle.read_judge.proofs.Before.{start-wrong, codes-wrong, listed-wrong, frames-wrong, changing-wrong, ends-wrong, all-held}
 use Rattle.repair_scan.specs.Inner.{few}
 use Rattle.repair_kept.specs.Kept.{Accepted}
 use Rattle.repair_kept.proofs.Same.{no-way, byte-same, part-same}

@@ -9,17 +9,16 @@ use borrow.Author.Tests.{le-leb, leb-true, eqb-true, eqb-false, ltb-true, lt-ltb
 use lib.Dec.{leb, eqb, ltb}
 use lib.ListN.{length, getD, drop}
 use Rattle.wire.specs.Wire.{number}
-use Rattle.format.specs.Version.{gteOf}
+use Rattle.format.specs.Version.{gteOf, hasInitiator}
 use Rattle.format.specs.declared.version.Version.{Version}
 use Rattle.layout.specs.Payloads.{endSize}
-use Rattle.format.specs.Version.{hasInitiator}
 use Rattle.ending.specs.End.{initiatorWrong}
 use Rattle.grammar.proofs.Tests.{both}
-use Rattle.outline.specs.Inner.{usedAt, flagAt, blockAt, fullAt, lastAt, lastBlock, blocksFrom, codesAt, initiatorAt, sameRun, endHere, rightAt, secondAt, endsAt}
-use Rattle.outline.specs.declared.answer.Codes.{Codes}
-use Rattle.outline.specs.declared.answer.Codes.the-variants as codes
-use Rattle.outline.specs.declared.answer.Ends.{Ends}
-use Rattle.outline.specs.declared.answer.Ends.the-variants as ended
+use Rattle.read_outline.specs.Inner.{usedAt, flagAt, blockAt, fullAt, lastAt, lastBlock, blocksFrom, codesAt, initiatorAt, sameRun, endHere, rightAt, secondAt, endsAt}
+use Rattle.read_outline.specs.declared.answer.Codes.{Codes}
+use Rattle.read_outline.specs.declared.answer.Codes.the-variants as codes
+use Rattle.read_outline.specs.declared.answer.Ends.{Ends}
+use Rattle.read_outline.specs.declared.answer.Ends.the-variants as ended
 use Rattle.repair_kept.proofs.Same.{byte-same, part-same}
 
 no-wrong : {A : Type 0} {a b c : ℕ} → codes.Wrong ≡ codes.Ended a b c → A

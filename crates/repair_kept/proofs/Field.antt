@@ -20,8 +20,7 @@ use Rattle.head.proofs.Filled.{zero-data, whole-data, stop-within}
 use Rattle.head.proofs.Heads.{table-there, first-by-size, too-short}
 use Rattle.de.specs.Cut.{zeroed}
 use Rattle.grammar.specs.WellFormed.{Each}
-use Rattle.found.specs.Inner.{Bytes}
-use Rattle.judging.specs.Inner.{Headed}
+use Rattle.read_judge.specs.Inner.{Bytes, Headed}
 use Rattle.repair_kept.specs.Kept.{endingAt}
 use Rattle.repair_kept.proofs.Same.{byte-same, drop-same}
 

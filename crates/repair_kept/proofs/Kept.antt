@@ -19,17 +19,17 @@ use Rattle.grammar.specs.WellFormed.{ascending}
 use Rattle.grammar.specs.Machine.{familyOf, State, initial, closed, orderly, after, onFamily}
 use Rattle.grammar.proofs.Tests.{both}
 use Rattle.grammar.proofs.Takes.{closed-last}
-use Rattle.frame_scan.specs.Counts.{noTally, countedOf}
-use Rattle.frame_scan.specs.Inner.{saidAt, spanAt, takesAt, takes, stops, scan, tells, tallied}
-use Rattle.frame_scan.specs.declared.tally.Tally.{Tally}
-use Rattle.outline.specs.Inner.{codesAt, endsAt}
-use Rattle.outline.specs.Listed.{listedRight}
-use Rattle.outline.specs.declared.answer.Codes.{Codes}
-use Rattle.outline.specs.declared.answer.Codes.the-variants as codes
-use Rattle.outline.specs.declared.answer.Ends.{Ends}
-use Rattle.outline.specs.declared.answer.Ends.the-variants as ended
-use Rattle.found.specs.Inner.{changes}
-use Rattle.judging.proofs.Passes.{codes-within, scan-within, scan-back}
+use Rattle.read_scan.specs.Counts.{noTally, countedOf}
+use Rattle.read_scan.specs.Inner.{saidAt, spanAt, takesAt, takes, stops, scan, tells, tallied}
+use Rattle.read_scan.specs.declared.tally.Tally.{Tally}
+use Rattle.read_outline.specs.Inner.{codesAt, endsAt}
+use Rattle.read_outline.specs.Listed.{listedRight}
+use Rattle.read_outline.specs.declared.answer.Codes.{Codes}
+use Rattle.read_outline.specs.declared.answer.Codes.the-variants as codes
+use Rattle.read_outline.specs.declared.answer.Ends.{Ends}
+use Rattle.read_outline.specs.declared.answer.Ends.the-variants as ended
+use Rattle.read_judge.specs.Inner.{changes}
+use Rattle.read_judge.proofs.Passes.{codes-within, scan-within, scan-back}
 use Rattle.repair_scan.specs.Inner.{short, few, tallyFits, rests, isGood, startOnly, reach, reached, endsTo, endsFrom, withEnds, fromCodes, keptFrom}
 use Rattle.repair_scan.specs.declared.pass.Reached.{Reached}
 use Rattle.repair_kept.proofs.Same.{no-way, byte-same, rises, far, Stops, all, other, Got, Near, old, new, near}

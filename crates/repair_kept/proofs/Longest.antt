@@ -11,13 +11,12 @@ use Rattle.format.specs.Version.{acceptedOf}
 use Rattle.format.specs.declared.version.Version.{Version}
 use Rattle.head.specs.Table.{tableOf, firstPlace, spanOf, headRefusal}
 use Rattle.de.specs.Cut.{zeroed}
-use Rattle.found.specs.Inner.{Bytes, firstAt, startFits}
-use Rattle.found.specs.declared.first.First.{First}
-use Rattle.found.specs.declared.first.First.the-variants.{Opens, Other}
-use Rattle.judging.specs.Inner.{Started}
-use Rattle.judging.proofs.Passes.{first-within}
+use Rattle.read_judge.specs.Inner.{Bytes, firstAt, startFits, Started}
+use Rattle.read_judge.specs.declared.first.First.{First}
+use Rattle.read_judge.specs.declared.first.First.the-variants.{Opens, Other}
+use Rattle.read_judge.proofs.Passes.{first-within}
 use Rattle.repair_scan.specs.Inner.{keptFrom}
-use Rattle.repair_kept.specs.Kept.{endingAt, Begins, Longest}
+use Rattle.repair_kept.specs.Kept.{endingAt, ReplayUpTo, Longest}
 use Rattle.repair_kept.proofs.Same.{no-way, part-same}
 use Rattle.repair_kept.proofs.Kept.{Tests, Sound, sound, most}
 use Rattle.repair_kept.proofs.Field.{long-enough, ending-tail, ending-starts, ending-headed, first-within as table-within}
@@ -31,10 +30,10 @@ module _ (f spans : List ℕ) (accepted : headRefusal (zeroed f) ≡ 0) (many : 
   starts : (17 ≤ first) × (first ≤ length f)
   starts = table-within f accepted
 
-  pub begins-at : (q : ℕ) → Begins f q → first ≤ q
+  pub begins-at : (q : ℕ) → ReplayUpTo f q → first ≤ q
   begins-at q b = ending-starts f accepted q (b .short) (b .within) (early-head (endingAt f q) (b .accepted .early)) (b .accepted .found .whole)
 
-  begins-passed : (q : ℕ) → Begins f q → Passed (endingAt f q) spans first q
+  begins-passed : (q : ℕ) → ReplayUpTo f q → Passed (endingAt f q) spans first q
   begins-passed q b = passed (endingAt f q) spans first q (ending-headed f accepted q (b .short) (b .within) spans many index bytes (begins-at q b)) (b .accepted)
 
   module _ (v : Version) (len : ℕ) (opens : firstAt f spans first (length f) ≡ Opens v len) where
@@ -49,7 +48,7 @@ module _ (f spans : List ℕ) (accepted : headRefusal (zeroed f) ≡ 0) (many : 
       fits : startFits v (part f (first + 1) len) ≡ true
       behind : at ≤ q
 
-    same-first : (q : ℕ) → Begins f q → Same q
+    same-first : (q : ℕ) → ReplayUpTo f q → Same q
     same-first q b =
         let p = begins-passed q b in
         let (s, t) = starts in
@@ -67,15 +66,15 @@ module _ (f spans : List ℕ) (accepted : headRefusal (zeroed f) ≡ 0) (many : 
         }
 
     -- a start that no replay begins with
-    pub no-start : startFits v (part f (first + 1) len) ≡ false → (q : ℕ) → Begins f q → ⊥
+    pub no-start : startFits v (part f (first + 1) len) ≡ false → (q : ℕ) → ReplayUpTo f q → ⊥
     no-start e q b = no-way (sym e ∙ same-first q b .fits)
 
-    most-kept : (q : ℕ) → Begins f q → q ≤ keptFrom v f spans (length f) at
+    most-kept : (q : ℕ) → ReplayUpTo f q → q ≤ keptFrom v f spans (length f) at
     most-kept q b =
         let s = same-first q b in
         most v f (endingAt f q) spans (ending-tail f (long-enough f accepted) q) q (length f) (b .within) (b .short) at (omega (arith, starts .0)) (s .behind) (s .tests)
 
-    pub none-kept : keptFrom v f spans (length f) at ≡ 0 → (q : ℕ) → Begins f q → ⊥
+    pub none-kept : keptFrom v f spans (length f) at ≡ 0 → (q : ℕ) → ReplayUpTo f q → ⊥
     none-kept e q b = omega (arith, most-kept q b, begins-at q b, starts .0)
 
     pub longest : acceptedOf v ≡ true → startFits v (part f (first + 1) len) ≡ true → (keptFrom v f spans (length f) at ≡ 0 → ⊥) → Longest f (keptFrom v f spans (length f) at)

@@ -19,9 +19,9 @@ use Rattle.layout.specs.declared.columns.Family.{Family}
 use Rattle.grammar.specs.WellFormed.{ascending}
 use Rattle.grammar.specs.Machine.{familyOf, State, closed, orderly, after, onFamily}
 use Rattle.grammar.proofs.Tests.{both, taken}
-use Rattle.frame_scan.specs.Counts.{countedOf}
-use Rattle.frame_scan.specs.Inner.{saidAt, spanAt, takesAt, takes, stops, scan, tells, tallied}
-use Rattle.frame_scan.specs.declared.tally.Tally.{Tally}
+use Rattle.read_scan.specs.Counts.{countedOf}
+use Rattle.read_scan.specs.Inner.{saidAt, spanAt, takesAt, takes, stops, scan, tells, tallied}
+use Rattle.read_scan.specs.declared.tally.Tally.{Tally}
 use Rattle.repair_scan.specs.Inner.{tallyFits, rests, reach, reached}
 use Rattle.repair_scan.specs.declared.pass.Reached.{Reached}
 

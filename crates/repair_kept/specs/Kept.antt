@@ -6,7 +6,7 @@ use mathlib.Core.Bool.{false}
 use mathlib.Core.List.{List}
 use lib.ListN.{length}
 use Rattle.wire.specs.Wire.{be, splice}
-use Rattle.found.specs.Found.{versionOf, earlyRefusal, Found, tooBig}
+use Rattle.read_judge.specs.Found.{versionOf, earlyRefusal, Found, tooBig}
 
 -- a file whose length field says that its events end at a place
 unfoldable pub endingAt : List ℕ → ℕ → List ℕ
@@ -20,12 +20,12 @@ pub record Accepted (f : List ℕ) : Type 0 where
 
 -- the events up to a place are those of a replay that `read` accepts: with a length field that says so the file is accepted.
 -- The length has four bytes
-pub record Begins (f : List ℕ) (p : ℕ) : Type 0 where
+pub record ReplayUpTo (f : List ℕ) (p : ℕ) : Type 0 where
   pub within : p ≤ length f
   pub short : p < 4294967311
   pub accepted : Accepted (endingAt f p)
 
 -- the longest such beginning
 pub record Longest (f : List ℕ) (p : ℕ) : Type 0 where
-  pub begins : Begins f p
-  pub most : (q : ℕ) → Begins f q → q ≤ p
+  pub begins : ReplayUpTo f p
+  pub most : (q : ℕ) → ReplayUpTo f q → q ≤ p

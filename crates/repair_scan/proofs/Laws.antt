@@ -16,23 +16,23 @@ use Rattle.layout.specs.declared.columns.Family.{Family}
 use Rattle.layout.specs.declared.columns.Family.the-variants.{Pre}
 use Rattle.grammar.specs.WellFormed.{ascending}
 use Rattle.grammar.specs.Machine.{familyOf, onFamily, initial, State, closed, after}
-use Rattle.frame_order.specs.Inner.{dueIn, saidOf, stateIn, closedAt}
-use Rattle.frame_order.specs.declared.stage.Stage.{Stage}
-use Rattle.frame_order.specs.declared.stage.Word.{Word}
-use Rattle.frame_order.proofs.Steps.{closed-is}
-use Rattle.frame_scan.specs.Counts.{noTally, countedOf, Under}
-use Rattle.frame_scan.specs.Inner.{kindOf, noStage, Asked, Gone, saidAt, spanAt, takesAt}
-use Rattle.frame_scan.specs.declared.tally.Tally.{Tally}
-use Rattle.frame_scan.specs.declared.event.Kind.the-variants.{Frame, Other}
-use Rattle.frame_scan.proofs.Counting.{under-counted}
-use Rattle.frame_scan.proofs.Turns.{kind-frame}
-use Rattle.outline.specs.Inner.{codesAt, endsAt}
-use Rattle.outline.specs.Listed.{listedRight}
-use Rattle.outline.specs.declared.answer.Codes.{Codes}
-use Rattle.outline.specs.declared.answer.Codes.the-variants as codes
-use Rattle.outline.specs.declared.answer.Ends.{Ends}
-use Rattle.outline.specs.declared.answer.Ends.the-variants as ends
-use Rattle.found.specs.Inner.{changes}
+use Rattle.read_order.specs.Inner.{dueIn, saidOf, stateIn, closedAt}
+use Rattle.read_order.specs.declared.stage.Stage.{Stage}
+use Rattle.read_order.specs.declared.stage.Word.{Word}
+use Rattle.read_order.proofs.Steps.{closed-is}
+use Rattle.read_scan.specs.Counts.{noTally, countedOf, Under}
+use Rattle.read_scan.specs.Inner.{kindOf, noStage, Asked, Gone, saidAt, spanAt, takesAt}
+use Rattle.read_scan.specs.declared.tally.Tally.{Tally}
+use Rattle.read_scan.specs.declared.event.Kind.the-variants.{Frame, Other}
+use Rattle.read_scan.proofs.Counting.{under-counted}
+use Rattle.read_scan.proofs.Turns.{kind-frame}
+use Rattle.read_outline.specs.Inner.{codesAt, endsAt}
+use Rattle.read_outline.specs.Listed.{listedRight}
+use Rattle.read_outline.specs.declared.answer.Codes.{Codes}
+use Rattle.read_outline.specs.declared.answer.Codes.the-variants as codes
+use Rattle.read_outline.specs.declared.answer.Ends.{Ends}
+use Rattle.read_outline.specs.declared.answer.Ends.the-variants as ends
+use Rattle.read_judge.specs.Inner.{changes}
 use Rattle.repair_scan.specs.Inner.{short, few, tallyFits, rests, restsAt, isGood, startOnly, reach, reached, endsTo, endsFrom, withEnds, fromCodes, keptFrom}
 use Rattle.repair_scan.specs.declared.pass.Reached.{Reached}
 

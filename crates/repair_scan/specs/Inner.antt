@@ -10,18 +10,18 @@ use Rattle.format.specs.declared.version.Version.{Version}
 use Rattle.layout.specs.Payloads.{endSize}
 use Rattle.grammar.specs.WellFormed.{ascending}
 use Rattle.grammar.specs.Machine.{familyOf, State, initial, closed, after, onFamily}
-use Rattle.frame_order.specs.Inner.{closedAt}
-use Rattle.frame_order.specs.declared.stage.Stage.{Stage}
-use Rattle.frame_scan.specs.Counts.{noTally, countedOf}
-use Rattle.frame_scan.specs.Inner.{saidAt, spanAt, takes}
-use Rattle.frame_scan.specs.declared.tally.Tally.{Tally}
-use Rattle.outline.specs.Inner.{codesAt, endsAt}
-use Rattle.outline.specs.Listed.{listedRight}
-use Rattle.outline.specs.declared.answer.Codes.{Codes}
-use Rattle.outline.specs.declared.answer.Codes.the-variants as codes
-use Rattle.outline.specs.declared.answer.Ends.{Ends}
-use Rattle.outline.specs.declared.answer.Ends.the-variants as ends
-use Rattle.found.specs.Inner.{changes}
+use Rattle.read_order.specs.Inner.{closedAt}
+use Rattle.read_order.specs.declared.stage.Stage.{Stage}
+use Rattle.read_scan.specs.Counts.{noTally, countedOf}
+use Rattle.read_scan.specs.Inner.{saidAt, spanAt, takes}
+use Rattle.read_scan.specs.declared.tally.Tally.{Tally}
+use Rattle.read_outline.specs.Inner.{codesAt, endsAt}
+use Rattle.read_outline.specs.Listed.{listedRight}
+use Rattle.read_outline.specs.declared.answer.Codes.{Codes}
+use Rattle.read_outline.specs.declared.answer.Codes.the-variants as codes
+use Rattle.read_outline.specs.declared.answer.Ends.{Ends}
+use Rattle.read_outline.specs.declared.answer.Ends.the-variants as ends
+use Rattle.read_judge.specs.Inner.{changes}
 use Rattle.repair_scan.specs.declared.pass.Reached.{Reached}
 
 -- ---- where a replay may end

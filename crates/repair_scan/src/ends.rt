@@ -3,11 +3,11 @@ ghost use mathlib.Core.Path.{_≡_};
 ghost use Prim.Native.Nat.{_≤_};
 ghost use lib.ListN.{length};
 ghost use Rattle.repair_scan.specs.Inner.{isGood, endsTo, endsFrom};
-ghost use Rattle.outline.specs.Inner.{endsAt};
+ghost use Rattle.read_outline.specs.Inner.{endsAt};
 use crate::rest::is_short;
 use format::version::Version;
 use layout::payloads::end_size;
-use outline::answer::Ends;
+use read_outline::answer::Ends;
 
 // Whether ends fill what stands from a place to another.
 fn ends_to(file: &[u8], spans: &[u32], v: Version, at: usize, to: usize, stop: usize) -> bool
@@ -16,7 +16,7 @@ fn ends_to(file: &[u8], spans: &[u32], v: Version, at: usize, to: usize, stop: u
 {
     if to <= stop {
         if is_short(to) {
-            let e = outline::ends(file, spans, v, at, to);
+            let e = read_outline::ends(file, spans, v, at, to);
             match e {
                 Ends::Good { count: _ } => {
                     return true;

@@ -3,8 +3,8 @@ ghost use mathlib.Core.Path.{_≡_};
 ghost use Prim.Native.Nat.{suc, _≤_};
 ghost use lib.ListN.{length};
 ghost use Rattle.grammar.specs.Machine.{initial};
-ghost use Rattle.frame_scan.specs.Counts.{noTally};
-ghost use Rattle.outline.specs.Inner.{codesAt};
+ghost use Rattle.read_scan.specs.Counts.{noTally};
+ghost use Rattle.read_outline.specs.Inner.{codesAt};
 ghost use Rattle.repair_scan.specs.Inner.{reached, withEnds, fromCodes, startOnly, keptFrom};
 
 pub mod ends;
@@ -13,8 +13,8 @@ pub mod rest;
 
 use ends::ends_from;
 use format::version::Version;
-use outline::answer::Codes;
 use pass::furthest;
+use read_outline::answer::Codes;
 use rest::is_short;
 
 // The ends behind the frames, where a replay may end there.
@@ -34,7 +34,7 @@ fn from_codes(file: &[u8], spans: &[u32], v: Version, at: usize, stop: usize) ->
     requires { ⌜ (at ≤ stop) × (stop ≤ length (now file)) × (length (now spans) ≡ 256) ⌝ }
     ensures { λ r. ⌜ r ≡ fromCodes v (now (file .entry)) (now (spans .entry)) stop (codesAt v (now (file .entry)) (now (spans .entry)) at stop) ⌝ }
 {
-    let c = outline::codes(file, spans, v, at, stop);
+    let c = read_outline::codes(file, spans, v, at, stop);
     let Codes::Ended {
         at: place,
         blocks,
@@ -43,7 +43,7 @@ fn from_codes(file: &[u8], spans: &[u32], v: Version, at: usize, stop: usize) ->
     else {
         return 0;
     };
-    if outline::listed_right(spans, v, blocks, actual) {
+    if read_outline::listed_right(spans, v, blocks, actual) {
         if blocks <= 32768 {
             return with_ends(file, spans, v, place, stop);
         }
@@ -56,7 +56,7 @@ fn start_only(spans: &[u32], v: Version, at: usize) -> usize
     requires { ⌜ length (now spans) ≡ 256 ⌝ }
     ensures { λ r. ⌜ r ≡ startOnly v (now (spans .entry)) at ⌝ }
 {
-    if outline::listed_right(spans, v, 0, 0) {
+    if read_outline::listed_right(spans, v, 0, 0) {
         if is_short(at) {
             return at;
         }

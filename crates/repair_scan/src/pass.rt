@@ -3,23 +3,23 @@ ghost use mathlib.Core.Path.{_≡_};
 ghost use Prim.Native.Nat.{suc, _≤_};
 ghost use lib.ListN.{length};
 ghost use Rattle.grammar.specs.Machine.{initial};
-ghost use Rattle.frame_scan.specs.Counts.{noTally};
-ghost use Rattle.frame_scan.specs.Inner.{noStage};
+ghost use Rattle.read_scan.specs.Counts.{noTally};
+ghost use Rattle.read_scan.specs.Inner.{noStage};
 ghost use Rattle.repair_scan.specs.Inner.{reached};
 use crate::rest::settled;
 use format::version::Version;
-use frame_order::due::PortOrder;
-use frame_order::stage::Stage;
-use frame_scan::event::Kind;
-use frame_scan::event::Turn;
-use frame_scan::event::kind_of;
-use frame_scan::event::span_of;
-use frame_scan::event::try_event;
-use frame_scan::sizes::sizes_of;
-use frame_scan::tally::counted;
-use frame_scan::tally::nothing;
 use layout::columns::Family;
 use layout::payloads::record_size;
+use read_order::due::PortOrder;
+use read_order::stage::Stage;
+use read_scan::event::Kind;
+use read_scan::event::Turn;
+use read_scan::event::kind_of;
+use read_scan::event::span_of;
+use read_scan::event::try_event;
+use read_scan::sizes::sizes_of;
+use read_scan::tally::counted;
+use read_scan::tally::nothing;
 
 // Where the frames stop, and the last place up to there where a replay may end.
 pub struct Reached {
@@ -58,7 +58,18 @@ pub fn furthest(file: &[u8], spans: &[u32], v: Version, first: usize, stop: usiz
             return Reached { at, best };
         };
         let n = span_of(spans, code);
-        let t = try_event(file, v, &sizes[..], PortOrder::Ascending, span, stop, m, at, n, family);
+        let t = try_event(
+            file,
+            v,
+            &sizes[..],
+            PortOrder::Ascending,
+            span,
+            stop,
+            m,
+            at,
+            n,
+            family,
+        );
         match t {
             Turn::Refused => {
                 return Reached { at, best };

@@ -3,10 +3,10 @@ ghost use mathlib.Core.Path.{_≡_};
 ghost use mathlib.Core.Bool.{cond};
 ghost use Rattle.repair_scan.specs.Inner.{short, few, tallyFits, restsAt};
 use format::version::Version;
-use found::parts::changing;
-use frame_order::stage::Stage;
-use frame_order::stage::is_closed;
-use frame_scan::tally::Tally;
+use read_judge::parts::changing;
+use read_order::stage::Stage;
+use read_order::stage::is_closed;
+use read_scan::tally::Tally;
 
 // Whether event data that ends at a place has a length of four bytes.
 pub fn is_short(at: usize) -> bool

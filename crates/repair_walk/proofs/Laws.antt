@@ -9,7 +9,7 @@ use borrow.Author.Tests.{lt-ltb, le-ltb, le-leb, lt-leb, leb-true, leb-false, lt
 use lib.Dec.{ltb, leb}
 use lib.ListN.{length, getD}
 use Rattle.grammar.proofs.Tests.{both}
-use Rattle.frame_scan.specs.Inner.{spanAt}
+use Rattle.read_scan.specs.Inner.{spanAt}
 use Rattle.repair_walk.specs.Inner.{pass, isWhole, passedFrom}
 
 module _ (file spans : List ℕ) (stop at : ℕ) where

@@ -15,8 +15,8 @@ use Rattle.head.specs.declared.Step.{Step}
 use Rattle.head.specs.declared.Step.the-variants.{Event, Ends, Cut, Refused}
 use Rattle.head.proofs.Steps.{unlisted, fits, overruns, at-end, inside}
 use Rattle.de.specs.Walk.{Run, after, turn, run, runOf}
-use Rattle.found.specs.Inner.{Bytes}
-use Rattle.frame_scan.specs.Inner.{spanAt}
+use Rattle.read_judge.specs.Inner.{Bytes}
+use Rattle.read_scan.specs.Inner.{spanAt}
 use Rattle.repair_kept.proofs.Same.{byte-same}
 use Rattle.repair_walk.specs.Inner.{pass, isWhole, passedFrom}
 use Rattle.repair_walk.specs.declared.Passed.{Passed}

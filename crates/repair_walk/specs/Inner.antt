@@ -5,7 +5,7 @@ use mathlib.Core.Bool.{Bool, cond, _&&_}
 use mathlib.Core.List.{List}
 use lib.Dec.{ltb, leb}
 use lib.ListN.{getD}
-use Rattle.frame_scan.specs.Inner.{spanAt}
+use Rattle.read_scan.specs.Inner.{spanAt}
 use Rattle.repair_walk.specs.declared.Passed.{Passed}
 
 abbrev pub pass : ℕ → ℕ → Passed

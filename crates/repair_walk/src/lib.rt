@@ -3,7 +3,7 @@ ghost use mathlib.Core.Path.{_≡_};
 ghost use Prim.Native.Nat.{suc, _≤_};
 ghost use lib.ListN.{length};
 ghost use Rattle.repair_walk.specs.Inner.{isWhole, passedFrom};
-use frame_scan::event::span_of;
+use read_scan::event::span_of;
 
 // Where they stop, and how many they are.
 pub struct Passed {

@@ -12,8 +12,9 @@ use native.Mathlib.Decide.{ℕ-discrete}
 use lib.Dec.{eqb}
 use lib.ListN.{length, getD, set, take, drop, replicate, length-set}
 use lib.Seq.{take-suc, drop-cons, take-all, drop-length}
+use Rattle.format.specs.Mark.{markIf}
 use Rattle.wire.proofs.Laws.{tabulated, stored}
-use Rattle.rollback.specs.Mask.{occurs, asByte, others, repeats, maskOf, place, needed, scratchOf}
+use Rattle.rollback.specs.Mask.{occurs, others, repeats, maskOf, place, needed, scratchOf}
 use Rattle.rollback.specs.Inner.{turnOf}
 use Rattle.rollback.specs.declared.frame.Rollbacks.{Rollbacks}
 use Rattle.rollback.specs.declared.frame.Rollbacks.the-variants.{ExceptFirst, ExceptLast}
@@ -114,7 +115,7 @@ module _
         let q : passed keep ids k ≡ others keep ids i = passed-others keep ids k more ∙ ap (others keep ids) (sym turn) in
         rw (v .marks-are, q)
         (marks-at (others keep ids i) (needed ids) p needed-above
-        ∙ rw here (ap asByte (occurs-place (getD ids i 0) (others keep ids i) (ok i) (placed-others keep ids i ok))))
+        ∙ rw here (ap markIf (occurs-place (getD ids i 0) (others keep ids i) (ok i) (placed-others keep ids i ok))))
 
     pub swept-more : InPlace ids → Swept keep ids (set mask i (getD marks p 0)) (set marks p 1) (k + 1)
     swept-more ok = record {

@@ -2,12 +2,13 @@
 -- Assumes nothing.
 use Prim.Native.Nat.{ℕ, zero, suc, max}
 use mathlib.Core.Path.{_≡_}
-use mathlib.Core.Bool.{Bool, true, false, cond, not, _&&_, _||_}
+use mathlib.Core.Bool.{Bool, true, false, not, _&&_, _||_}
 use mathlib.Core.List.{List, [], _∷_, _++_, map}
 use lib.Dec.{ltb, eqb}
 use lib.ListN.{length, getD, take, drop}
 use mir.Syntax.{w32}
 use mir.Val.{toZ}
+use Rattle.format.specs.Mark.{markIf}
 use Rattle.wire.specs.Wire.{tabulate}
 use Rattle.format.specs.FrameId.{inRange, placeOf}
 use Rattle.format.specs.Refusal.{Refusal, refuse, lowest}
@@ -21,10 +22,6 @@ unfoldable pub occurs : ℕ → List ℕ → Bool
 occurs x [] = false
 occurs x (y ∷ ys) = eqb x y || occurs x ys
 
--- a byte that says whether
-abbrev pub asByte : Bool → ℕ
-asByte b = cond b 1 0
-
 -- ---- the mask
 
 -- the frames before frame i, where the first of an id is kept; those after it, where the last is
@@ -34,7 +31,7 @@ others ExceptLast ids i = drop (suc i) ids
 
 -- 1 where the id of frame i occurs among those, and 0 at its first, or last, occurrence
 abbrev pub repeats : Rollbacks → List ℕ → ℕ → ℕ
-repeats keep ids i = asByte (occurs (getD ids i 0) (others keep ids i))
+repeats keep ids i = markIf (occurs (getD ids i 0) (others keep ids i))
 
 -- one byte a frame
 unfoldable pub maskOf : Rollbacks → List ℕ → List ℕ
@@ -53,7 +50,7 @@ needed (cell ∷ cells) = max (suc (place cell)) (needed cells)
 
 -- n bytes, one for each id from the first on: 1 where that id occurs, else 0
 unfoldable pub scratchOf : List ℕ → ℕ → List ℕ
-scratchOf ids n = tabulate n (λ p. asByte (occurs p (map place ids)))
+scratchOf ids n = tabulate n (λ p. markIf (occurs p (map place ids)))
 
 -- ---- the answer
 

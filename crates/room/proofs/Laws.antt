@@ -20,7 +20,7 @@ use Rattle.game.specs.declared.frames.Frames.{Frames}
 use Rattle.frames.specs.Judge.{tooMany}
 use Rattle.frames.proofs.Accepted as frames
 use Rattle.start.proofs.Refusals.{block-fits}
-use Rattle.room.specs.Room.{withFrames, howMany, eventRoom, roomOf, counted, roomRefusals, answered, reserved}
+use Rattle.room.specs.Room.{withFrames, howMany, eventRoom, roomOf, counted, roomRefusals, roomAnswer, reserved}
 use Rattle.room.specs.Inner.{Bounded, framesRoom}
 use Rattle.room.specs.declared.Plan.{Plan}
 
@@ -49,17 +49,17 @@ bounded p e =
 
 pub refused-as : (p : Plan) (n : ℕ) → n ≡ lowest (roomRefusals p) → (n ≡ 0 → ⊥) → record { refused = n; bytes = 0 } ≡ reserved p
 refused-as p zero e h = absurd (h refl)
-refused-as p (suc k) e h = ap (λ (i : ℕ). answered i (roomOf p)) e
+refused-as p (suc k) e h = ap (λ (i : ℕ). roomAnswer i (roomOf p)) e
 
 pub reserved-as : (p : Plan) (n b : ℕ) → n ≡ lowest (roomRefusals p) → n ≡ 0 → b ≡ roomOf p → record { refused = 0; bytes = b } ≡ reserved p
 reserved-as p n b e z h =
-    ap₂ answered (sym z ∙ e) h
+    ap₂ roomAnswer (sym z ∙ e) h
 
 -- what the call answers where it refuses nothing
 pub taken : (p : Plan) → reserved p .refused ≡ 0 → reserved p .bytes ≡ roomOf p
 taken p = go (lowest (roomRefusals p))
   where
-    go : (k : ℕ) → answered k (roomOf p) .refused ≡ 0 → answered k (roomOf p) .bytes ≡ roomOf p
+    go : (k : ℕ) → roomAnswer k (roomOf p) .refused ≡ 0 → roomAnswer k (roomOf p) .bytes ≡ roomOf p
     go zero e = refl
     go (suc k) e = absurd (omega arith)
 

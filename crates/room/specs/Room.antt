@@ -67,12 +67,12 @@ roomRefusals p =
 
 -- ---- what the call answers: the refusal's number, or 0 and the bytes
 
-abbrev pub answered : ℕ → ℕ → Reserved
-answered zero n = record { refused = 0; bytes = n }
-answered (suc k) n = record { refused = suc k; bytes = 0 }
+abbrev pub roomAnswer : ℕ → ℕ → Reserved
+roomAnswer zero n = record { refused = 0; bytes = n }
+roomAnswer (suc k) n = record { refused = suc k; bytes = 0 }
 
 abbrev pub reserved : Plan → Reserved
-reserved p = answered (lowest (roomRefusals p)) (roomOf p)
+reserved p = roomAnswer (lowest (roomRefusals p)) (roomOf p)
 
 -- ---- a plan within another: of the same version, and no count is above the other's
 pub record AtMost (p q : Plan) : Type 0 where

@@ -28,13 +28,13 @@ use Rattle.de.specs.declared.Walked.the-variants as walked
 use Rattle.game.specs.Stores.{Stores}
 use Rattle.game.specs.declared.Game.{Game}
 use Rattle.ser.specs.declared.written.Written.the-variants.{File}
-use Rattle.ser.specs.Write.{entries, events, file, judged, refusal, answered, WrittenNumbers, writtenNumbers, left, Outcome}
+use Rattle.ser.specs.Write.{entries, events, file, judged, refusal, writeAnswer, WrittenNumbers, writtenNumbers, left, WriterOutcome}
 use Rattle.ser.proofs.Outcomes.{Passed, not-refused, numbered-eleven}
 use Rattle.ser.proofs.Sound as sound
 use Rattle.ser.proofs.EveryCut as every
 
 -- a file is answered where nothing is refused, and its length is the file's
-answered-file : (k n m : ℕ) → writtenNumbers (File n) ≡ writtenNumbers (answered k m) → (k ≡ 0) × (n ≡ m)
+answered-file : (k n m : ℕ) → writtenNumbers (File n) ≡ writtenNumbers (writeAnswer k m) → (k ≡ 0) × (n ≡ m)
 answered-file zero n m e = (refl-of zero, ap (λ (w : WrittenNumbers). w .len) e)
   where
     refl-of : (k : ℕ) → k ≡ k
@@ -45,7 +45,7 @@ left-file : (k : ℕ) (out f : List ℕ) → k ≡ 0 → left k out f ≡ splice
 left-file zero out f e = λ i. splice out 0 f
 left-file (suc k) out f e = absurd (omega arith)
 
-module _ {g : Game} {s : Stores} {out out′ : List ℕ} {n : ℕ} (o : Outcome g s out (File n) out′) where
+module _ {g : Game} {s : Stores} {out out′ : List ℕ} {n : ℕ} (o : WriterOutcome g s out (File n) out′) where
   pub none-applies : (refusal g s (length out) ≡ 0) × (n ≡ length (file g s))
   none-applies = answered-file (refusal g s (length out)) n (length (file g s)) (o .answer-is)
 

@@ -25,7 +25,7 @@ use Rattle.events.specs.Events.{framesEvents}
 use Rattle.events.specs.Inner.{Framed}
 use Rattle.events.proofs.Lengths.{length-frames}
 use Rattle.game.specs.declared.Game.{Game}
-use Rattle.ser.specs.Write.{entries, startEvent, events, file}
+use Rattle.ser.specs.Write.{entries, gameStartEvent, events, file}
 use Rattle.ser.specs.Length.{rawLength}
 use Rattle.ser.specs.Inner.{frontBytes, restBytes}
 
@@ -48,18 +48,18 @@ module _ (g : Game) (s : Stores) where
       eventsBytes (codeEvents (yes (g .«codes_given»)) (s .codes) (g .«actual_size»))
       ++ (eventsBytes (framesEvents (g .frames) (s .lent)) ++ eventsBytes (endEvents (g .frames .version) (g .end) (g .«double_end»)))
 
-  events-parts : eventsBytes (events g s) ≡ eventBytes (startEvent g s) ++ parts
+  events-parts : eventsBytes (events g s) ≡ eventBytes (gameStartEvent g s) ++ parts
   unfolding events
   events-parts =
-      events-cons (startEvent g s) _
-      ∙ ap (λ (l : List ℕ). eventBytes (startEvent g s) ++ l) (events-append _ _ ∙ ap (λ (l : List ℕ). eventsBytes (codeEvents (yes (g .«codes_given»)) (s .codes) (g .«actual_size»)) ++ l) (events-append _ _))
+      events-cons (gameStartEvent g s) _
+      ∙ ap (λ (l : List ℕ). eventBytes (gameStartEvent g s) ++ l) (events-append _ _ ∙ ap (λ (l : List ℕ). eventsBytes (codeEvents (yes (g .«codes_given»)) (s .codes) (g .«actual_size»)) ++ l) (events-append _ _))
 
-  start-size : length (eventBytes (startEvent g s)) ≡ 1 + length (s .template)
+  start-size : length (eventBytes (gameStartEvent g s)) ≡ 1 + length (s .template)
   start-size = let e = length-start-block (g .frames .version) (g .start) (s .template) in omega arith
 
   -- the start block's part in it is the template's length, whatever the fields
   pub length-events : length (eventsBytes (events g s)) ≡ 1 + length (s .template) + length parts
-  length-events = ap length events-parts ∙ length-append (eventBytes (startEvent g s)) parts ∙ ap (λ (n : ℕ). n + length parts) start-size
+  length-events = ap length events-parts ∙ length-append (eventBytes (gameStartEvent g s)) parts ∙ ap (λ (n : ℕ). n + length parts) start-size
 
   -- the bytes from the table through the last event, by counts
   pub length-raw : (yes (g .«codes_given») ≡ true → length (s .codes) ≡ 512 * blockCount (g .«actual_size»)) → Framed (g .frames) (s .lent)
@@ -69,7 +69,7 @@ module _ (g : Game) (s : Stores) where
       length-append (tableBytes (entries g s)) (eventsBytes (events g s))
       ∙ ap (λ (n : ℕ). length (tableBytes (entries g s)) + n)
       (ap length events-parts
-      ∙ length-append (eventBytes (startEvent g s)) parts
+      ∙ length-append (eventBytes (gameStartEvent g s)) parts
       ∙ ap₂ _+_ start-size
       (length-append (eventsBytes (codeEvents (yes (g .«codes_given»)) (s .codes) (g .«actual_size»))) _
       ∙ ap₂ _+_ (length-codes (yes (g .«codes_given»)) (s .codes) (g .«actual_size») whole)

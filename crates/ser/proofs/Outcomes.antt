@@ -28,7 +28,7 @@ use Rattle.ending.proofs.Lengths.{length-tail}
 use Rattle.game.specs.declared.Game.{Game}
 use Rattle.ser.specs.declared.written.Written.the-variants.{File, Refused}
 use Rattle.game.specs.Stores.{Stores}
-use Rattle.ser.specs.Write.{givenBytes, entries, events, file, judged, refusal, answered, writtenNumbers, left, Outcome}
+use Rattle.ser.specs.Write.{givenBytes, entries, events, file, judged, refusal, writeAnswer, writtenNumbers, left, WriterOutcome}
 use Rattle.ser.proofs.Laws.{stopped, went-on}
 
 -- ---- a game that is not refused
@@ -86,7 +86,7 @@ file-size g s raw t e q =
 
 -- ---- the answers
 
-refused-as : (k m : ℕ) (out f : List ℕ) → (k ≡ 0 → ⊥) → (answered k m ≡ Refused k) × (left k out f ≡ out)
+refused-as : (k m : ℕ) (out f : List ℕ) → (k ≡ 0 → ⊥) → (writeAnswer k m ≡ Refused k) × (left k out f ≡ out)
 refused-as zero m out f h = absurd (h refl)
 refused-as (suc k) m out f h = (refl, refl)
 
@@ -95,29 +95,29 @@ unfolding Numbered judged refusals
 numbered-eleven g s = (lit< tt, (lit< tt, (lit< tt, (lit< tt, (lit< tt, (lit< tt, (lit< tt, (lit< tt, (lit< tt, (lit< tt, (lit< tt, tt)))))))))))
 
 module _ {g : Game} {s : Stores} {out : List ℕ} where
-  outcome-refused : (k : ℕ) → k ≡ refusal g s (length out) → (k ≡ 0 → ⊥) → Outcome g s out (Refused k) out
+  outcome-refused : (k : ℕ) → k ≡ refusal g s (length out) → (k ≡ 0 → ⊥) → WriterOutcome g s out (Refused k) out
   outcome-refused k e h =
       let (a, b) = refused-as k (length (file g s)) out (file g s) h in
       record {
-        answer-is = ap writtenNumbers (sym (ap (λ (i : ℕ). answered i (length (file g s))) (sym e) ∙ a));
+        answer-is = ap writtenNumbers (sym (ap (λ (i : ℕ). writeAnswer i (length (file g s))) (sym e) ∙ a));
         out-is = sym (ap (λ (i : ℕ). left i out (file g s)) (sym e) ∙ b);
       }
 
-  pub judged-refused : (n : ℕ) → n ≡ lowest (judged g s) → (n ≡ 0 → ⊥) → Outcome g s out (Refused n) out
+  pub judged-refused : (n : ℕ) → n ≡ lowest (judged g s) → (n ≡ 0 → ⊥) → WriterOutcome g s out (Refused n) out
   unfolding refusal
   judged-refused n e h = outcome-refused n (stopped _ _ e h) h
 
-  pub short-refused : (n total : ℕ) → n ≡ lowest (judged g s) → n ≡ 0 → length (file g s) ≡ total → length out < total → Outcome g s out (Refused 12) out
+  pub short-refused : (n total : ℕ) → n ≡ lowest (judged g s) → n ≡ 0 → length (file g s) ≡ total → length out < total → WriterOutcome g s out (Refused 12) out
   unfolding refusal
   short-refused n total e z q h =
       outcome-refused 12 (went-on _ _ 12 e z (numbered-eleven g s) (here 12 _ _ (lt-ltb (length out) (length (file g s)) (omega arith)))) (λ x. absurd (omega arith))
 
   pub written : {after : List ℕ} (n total : ℕ) {next : ℕ} → n ≡ lowest (judged g s) → n ≡ 0 → length (file g s) ≡ total → total ≤ length out
-      → Wrote out after 0 next (file g s) → Outcome g s out (File total) after
+      → Wrote out after 0 next (file g s) → WriterOutcome g s out (File total) after
   unfolding refusal
   written n total e z q h w =
       let zero-is : 0 ≡ lowest (judged g s ++ (refuse 12 (ltb (length out) (length (file g s))) ∷ [])) = went-on _ _ 0 e z (numbered-eleven g s) (skip 12 _ _ _ (le-ltb (length out) (length (file g s)) (omega arith)) none) in
       record {
-        answer-is = ap writtenNumbers (ap File (sym q) ∙ ap (λ (i : ℕ). answered i (length (file g s))) zero-is);
+        answer-is = ap writtenNumbers (ap File (sym q) ∙ ap (λ (i : ℕ). writeAnswer i (length (file g s))) zero-is);
         out-is = w .after-is ∙ ap (λ (i : ℕ). left i out (file g s)) zero-is;
       }

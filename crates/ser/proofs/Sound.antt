@@ -24,7 +24,7 @@ use Rattle.ending.proofs.Lists.{listed-ends}
 use Rattle.events.proofs.Sizes.{listed-frames}
 use Rattle.game.specs.declared.Game.{Game}
 use Rattle.game.specs.Stores.{Stores}
-use Rattle.ser.specs.Write.{entries, startEvent, events, file}
+use Rattle.ser.specs.Write.{entries, gameStartEvent, events, file}
 use Rattle.ser.proofs.Files.{framed, length-raw}
 use Rattle.ser.proofs.Outcomes.{Passed}
 use Rattle.start.proofs.Refusals.{block-fits}
@@ -37,7 +37,7 @@ module _ {g : Game} {s : Stores} (p : Passed g s) where
   pub fresh : Fresh [] (entries g s)
   fresh = fresh-entries (g .frames .version) (length (s .template)) (yes (g .«codes_given»)) (g .«actual_size») (omega (arith, short))
 
-  listed-start : Listed (entries g s) (startEvent g s ∷ [])
+  listed-start : Listed (entries g s) (gameStartEvent g s ∷ [])
   unfolding Listed listed payloadSize
   listed-start =
       let (inside, size) = entry-at (g .frames .version) (length (s .template)) (yes (g .«codes_given»)) (g .«actual_size») 0 event.GameStart (lit< tt) refl refl in
@@ -50,7 +50,7 @@ module _ {g : Game} {s : Stores} (p : Passed g s) where
       let n = length (s .template) in
       let given = yes (g .«codes_given») in
       let actual = g .«actual_size» in
-      listed-append (entries g s) (startEvent g s ∷ []) _ listed-start
+      listed-append (entries g s) (gameStartEvent g s ∷ []) _ listed-start
       (listed-append (entries g s) _ _ (listed-codes v n given actual (s .codes) (λ t. right-codes v given (s .codes) actual (p .coded) t))
       (listed-append (entries g s) _ _ (listed-frames (g .frames) (s .lent) n given actual) (listed-ends v n given actual (g .end) (g .«double_end»))))
 

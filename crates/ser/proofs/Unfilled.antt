@@ -29,7 +29,7 @@ use Rattle.de.proofs.Unfilled as any
 use Rattle.game.specs.declared.Game.{Game}
 use Rattle.game.specs.Stores.{Stores}
 use Rattle.ser.specs.declared.written.Written.the-variants.{File}
-use Rattle.ser.specs.Write.{entries, events, file, Outcome}
+use Rattle.ser.specs.Write.{entries, events, file, WriterOutcome}
 use Rattle.ser.proofs.Outcomes.{Passed}
 use Rattle.ser.proofs.Sound.{fresh, all-listed, length-fits}
 use Rattle.ser.proofs.Answered.{accepted, written-file}
@@ -96,7 +96,7 @@ module _ {g : Game} {s : Stores} (p : Passed g s) where
 
 -- ---- what was answered and left
 
-module _ {g : Game} {s : Stores} {out out′ : List ℕ} {n : ℕ} (o : Outcome g s out (File n) out′) (k : ℕ) where
+module _ {g : Game} {s : Stores} {out out′ : List ℕ} {n : ℕ} (o : WriterOutcome g s out (File n) out′) (k : ℕ) where
   abbrev true-cut : List ℕ
   true-cut = take k (take n out′)
 

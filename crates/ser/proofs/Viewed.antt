@@ -28,7 +28,7 @@ use Rattle.start.specs.Length.{lengthOf}
 use Rattle.start.proofs.Refusals.{block-fits}
 use Rattle.start.proofs.Views as views
 use Rattle.ser.specs.declared.written.Written.the-variants.{File}
-use Rattle.ser.specs.Write.{entries, events, file, Outcome}
+use Rattle.ser.specs.Write.{entries, events, file, WriterOutcome}
 use Rattle.ser.specs.Inner.{frontBytes, restBytes}
 use Rattle.ser.proofs.Files.{file-parts}
 use Rattle.ser.proofs.Outcomes.{Passed}
@@ -72,7 +72,7 @@ module _ {g : Game} {s : Stores} (p : Passed g s) where
       rw (file-parts g s, ← length-front g s) (views.match-id-read (g .frames .version) (g .start) (s .template) (front g s) (rest g s) long (p .start) on array)
 
 -- the same of what `write` answered and left
-module _ {g : Game} {s : Stores} {out out′ : List ℕ} {n : ℕ} (o : Outcome g s out (File n) out′) where
+module _ {g : Game} {s : Stores} {out out′ : List ℕ} {n : ℕ} (o : WriterOutcome g s out (File n) out′) where
   pub written-texts : length (g .start .seats) ≡ 4 → (k : ℕ) → k < 4 → yes (getD (g .start .seats) k noSeat .given) ≡ true
       → views.Arrays (getD (g .start .seats) k noSeat)
       → views.Read (g .frames .version) (take n out′) (blockPlace g s) k (getD (g .start .seats) k noSeat)

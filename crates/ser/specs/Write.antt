@@ -34,12 +34,12 @@ givenBytes mark bytes = cond (yes mark) (length bytes) 0
 abbrev pub entries : Game → Stores → List Entry
 entries g s = entriesOf (g .frames .version) (length (s .template)) (yes (g .«codes_given»)) (g .«actual_size»)
 
-abbrev pub startEvent : Game → Stores → Ev
-startEvent g s = record { code = codeOf GameStart; payload = startBlock (g .frames .version) (g .start) (s .template) }
+abbrev pub gameStartEvent : Game → Stores → Ev
+gameStartEvent g s = record { code = codeOf GameStart; payload = startBlock (g .frames .version) (g .start) (s .template) }
 
 unfoldable pub events : Game → Stores → List Ev
 events g s =
-    startEvent g s
+    gameStartEvent g s
     ∷ (codeEvents (yes (g .«codes_given»)) (s .codes) (g .«actual_size»)
     ++ (framesEvents (g .frames) (s .lent) ++ endEvents (g .frames .version) (g .end) (g .«double_end»)))
 
@@ -62,9 +62,9 @@ refusal g s room = lowest (judged g s ++ (refuse 12 (ltb room (length (file g s)
 
 -- ---- what the call answers, and what the output is afterwards
 
-abbrev pub answered : ℕ → ℕ → Written
-answered zero n = File n
-answered (suc k) n = Refused (suc k)
+abbrev pub writeAnswer : ℕ → ℕ → Written
+writeAnswer zero n = File n
+writeAnswer (suc k) n = Refused (suc k)
 
 -- an answer in numbers: 0 for a file, 1 for a refusal; the refusal's number; the file's length
 pub record WrittenNumbers : Type 0 where
@@ -81,6 +81,6 @@ abbrev pub left : ℕ → List ℕ → List ℕ → List ℕ
 left zero out file = splice out 0 file
 left (suc k) out file = out
 
-pub record Outcome (g : Game) (s : Stores) (out : List ℕ) (r : Written) (out′ : List ℕ) : Type 0 where
-  pub answer-is : writtenNumbers r ≡ writtenNumbers (answered (refusal g s (length out)) (length (file g s)))
+pub record WriterOutcome (g : Game) (s : Stores) (out : List ℕ) (r : Written) (out′ : List ℕ) : Type 0 where
+  pub answer-is : writtenNumbers r ≡ writtenNumbers (writeAnswer (refusal g s (length out)) (length (file g s)))
   pub out-is : out′ ≡ left (refusal g s (length out)) out (file g s)

@@ -1,7 +1,7 @@
 // The public call: a game and its lent stores become a replay file in the output, or a refusal that touches nothing.
 ghost use lib.ListN.{length};
 ghost use Rattle.game.specs.Stores.{cells, offsets, lent, stores};
-ghost use Rattle.ser.specs.Write.{Outcome};
+ghost use Rattle.ser.specs.Write.{WriterOutcome};
 use super::file::put_front;
 use super::file::put_rest;
 use super::judge::given_bytes;
@@ -37,7 +37,7 @@ pub fn write(
     codes: &[u8],
     metadata: &[u8],
 ) -> Written
-    ensures { λ r. ⌜ Outcome g (stores (lent
+    ensures { λ r. ⌜ WriterOutcome g (stores (lent
         (cells (now (ids .entry)) (now (starts .entry)) (now (pres .entry)) (now (posts .entry)) (now (ends .entry))
         (now (items .entry)) (now (fods .entry)) (now (whispys .entry)) (now (stadiums .entry)))
         (offsets (now («item_offsets» .entry)) (now («fod_offsets» .entry)) (now («whispy_offsets» .entry)) (now («stadium_offsets» .entry)))

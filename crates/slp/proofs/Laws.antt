@@ -18,7 +18,7 @@ use Rattle.game.specs.declared.frames.Frames.{Frames}
 use Rattle.append.specs.Run as append
 use Rattle.append.specs.declared.appended.Appended.{Appended}
 use Rattle.answers.specs.declared.SlpAppended.{SlpAppended}
-use Rattle.run_rows.specs.Run.{familyOf}
+use Rattle.rows_run.specs.Run.{familyOf}
 use Rattle.ser.specs.Write as write
 use Rattle.game.specs.declared.Game.{Game}
 use Rattle.ser.specs.declared.written.Written.{Written}
@@ -41,7 +41,7 @@ mask-outcome {ids} {mask} {scratch} {keep = keep} {answer = answer} kept o n =
     }
 
 pub write-outcome : {g : Game} {s : Stores} {out out′ : List ℕ} {w : Written} {r : SlpWritten} →
-    write.Outcome g s out w out′ → r ≡ written w → WriteOutcome g s out r out′
+    write.WriterOutcome g s out w out′ → r ≡ written w → WriteOutcome g s out r out′
 write-outcome o n = record { answer-is = n ∙ ap writtenStruct (o .answer-is); out-is = o .out-is }
 
 pub append-outcome : {f : Frames} {s : Lent} {a b place : ℕ} {out out′ : List ℕ} {w : Appended} {r : SlpAppended} →

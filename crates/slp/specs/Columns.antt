@@ -6,7 +6,7 @@ use lib.Dec.{ltb}
 use lib.ListN.{length}
 use Rattle.format.specs.declared.version.Version.{Version}
 use Rattle.layout.specs.Columns.{widthsOf}
-use Rattle.run_rows.specs.Run.{familyOf}
+use Rattle.rows_run.specs.Run.{familyOf}
 use Rattle.names.specs.Names.{noColumn, described}
 use Rattle.names.specs.declared.columns.Described.{Described}
 

@@ -6,7 +6,7 @@ use mathlib.Core.List.{List}
 use lib.ListN.{length}
 use Rattle.rollback.specs.Mask.{answerOf, maskNumbers, maskAfter, scratchAfter}
 use Rattle.game.specs.Stores.{Lent, Stores}
-use Rattle.ser.specs.Write.{answered, left, refusal, file}
+use Rattle.ser.specs.Write.{writeAnswer, left, refusal, file}
 use Rattle.append.specs.Run.{runBytes, runRefusal, appended, leftAt}
 use Rattle.game.specs.declared.Game.{Game}
 use Rattle.game.specs.declared.frames.Frames.{Frames}
@@ -20,7 +20,7 @@ pub record MaskOutcome (ids : List ℕ) (keep : ℕ) (mask scratch : List ℕ) (
   pub scratch-is : scratch-after ≡ scratchAfter (answerOf ids (length mask) (length scratch)) ids scratch
 
 pub record WriteOutcome (g : Game) (s : Stores) (out : List ℕ) (r : SlpWritten) (out′ : List ℕ) : Type 0 where
-  pub answer-is : r ≡ written (answered (refusal g s (length out)) (length (file g s)))
+  pub answer-is : r ≡ written (writeAnswer (refusal g s (length out)) (length (file g s)))
   pub out-is : out′ ≡ left (refusal g s (length out)) out (file g s)
 
 -- a run of frames from a up to b; frame i alone is the run from i up to i + 1

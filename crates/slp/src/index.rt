@@ -1,14 +1,14 @@
 // The index of a replay, and an id looked up in it, as their crates give them. An id is an i32 by its bits.
 ghost use mathlib.Core.Path.{_≡_};
 ghost use Rattle.index_form.specs.Find.{momentIn};
-ghost use Rattle.index_calls.specs.Index.{WriteOutcome, AcceptOutcome};
+ghost use Rattle.index_calls.specs.Index.{WriteIndexOutcome, AcceptOutcome};
 use index_calls::Accepted;
 use index_calls::Written;
 use index_form::Moment;
 
 #[no_mangle]
 pub extern "C" fn slp_write_index(file: &[u8], out: &mut [u8]) -> Written
-    ensures { λ r. ⌜ WriteOutcome (now (file .entry)) (now (out .entry)) r (now (out .exit)) ⌝ }
+    ensures { λ r. ⌜ WriteIndexOutcome (now (file .entry)) (now (out .entry)) r (now (out .exit)) ⌝ }
 {
     index_calls::write_index(file, out)
 }

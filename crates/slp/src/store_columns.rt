@@ -3,7 +3,7 @@ ghost use mathlib.Core.Path.{_≡_};
 ghost use Rattle.head.specs.Table.{tableOf, firstPlace};
 ghost use Rattle.slp.specs.Columns.{storeColumns};
 use format::version::Version;
-use run_rows::family::family_of;
+use rows_run::family::family_of;
 
 // How many columns a family's store has in a version: none where there is no such family.
 #[no_mangle]

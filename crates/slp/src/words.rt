@@ -7,7 +7,7 @@ use names::columns::column;
 use names::columns::no_column;
 use names::refusals::Words;
 use names::refusals::refusal_words;
-use run_rows::family::family_of;
+use rows_run::family::family_of;
 
 // Column n of a family's store.
 #[no_mangle]

@@ -6,9 +6,9 @@ use lib.Dec.{eqb}
 use lib.ListN.{replicate}
 use Rattle.wire.specs.Wire.{be, keep}
 use Rattle.format.specs.declared.version.Version.{Version}
-use Rattle.format.specs.Mark.{yes}
+use Rattle.format.specs.Mark.{yes, flagOf}
 use Rattle.patch.specs.Patch.{Patch, patch, patched}
-use Rattle.patch.specs.Field.{flagOf, text, zeroFilled}
+use Rattle.patch.specs.Field.{text, zeroFilled}
 use Rattle.start.specs.declared.gate.Gate.{Gate}
 use Rattle.start.specs.Gate.{reaches, ucfFrom, tagFrom, palFrom, frozenFrom, sceneFrom, netplayFrom, suidFrom, languageFrom, matchFrom}
 use Rattle.game.specs.declared.start.Text.{Text}

@@ -4,8 +4,7 @@ use Prim.Native.Nat.{ℕ, zero, suc}
 use Rattle.layout.specs.declared.columns.Family.the-variants as family
 use Rattle.game.specs.Stores.{Lent}
 use Rattle.game.specs.declared.frames.Frames.{Frames}
-use Rattle.rows.specs.Rows.{preOf, noPre, postOf, noPost, itemOf, noItem}
-use Rattle.rows.specs.Rows.{fodPlatformOf, noFodPlatform, dreamlandWhispyOf, noDreamlandWhispy, stadiumTransformationOf, noStadiumTransformation}
+use Rattle.rows.specs.Rows.{preOf, noPre, postOf, noPost, itemOf, noItem, fodPlatformOf, noFodPlatform, dreamlandWhispyOf, noDreamlandWhispy, stadiumTransformationOf, noStadiumTransformation}
 use Rattle.transpose.specs.Judge.{rowRefusal}
 use Rattle.transpose.specs.Records.{cellsAt, markAt}
 use Rattle.transpose.specs.Frame.{noFrame, frameAt}

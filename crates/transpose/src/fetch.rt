@@ -1,8 +1,7 @@
 // The rows of single records, out of stores that were judged: zeros where they are refused (n is not 0), so that an answer is made in one place.
 ghost use mathlib.Core.Path.{_≡_};
 ghost use Rattle.layout.specs.declared.columns.Family.the-variants as family;
-ghost use Rattle.rows.specs.Rows.{preOf, postOf, itemOf, frameStartOf, frameEndOf, fodPlatformOf, dreamlandWhispyOf, stadiumTransformationOf};
-ghost use Rattle.rows.specs.Rows.{noCells, noVersion, noItem, noFrameStart, noFrameEnd, noFodPlatform, noDreamlandWhispy, noStadiumTransformation};
+ghost use Rattle.rows.specs.Rows.{preOf, postOf, itemOf, frameStartOf, frameEndOf, fodPlatformOf, dreamlandWhispyOf, stadiumTransformationOf, noCells, noVersion, noItem, noFrameStart, noFrameEnd, noFodPlatform, noDreamlandWhispy, noStadiumTransformation};
 ghost use Rattle.transpose.specs.Answers.{unlessRefused};
 ghost use Rattle.transpose.specs.Records.{cellsAt, markAt};
 ghost use Rattle.transpose.specs.Inner.{Reachable, Fetched, Attending};

@@ -19,7 +19,7 @@ use Rattle.de.specs.Numbers.{walkNumbers}
 use Rattle.de.specs.declared.Walked.{Walked}
 use Rattle.de.specs.declared.Walked.the-variants.{Done, Refused}
 use Rattle.de.proofs.Only.{walk-told}
-use Rattle.walk_line.specs.Line.{Decimal, Pair, pair, state, refusal, inputRefusal, inputOf, Line, done, refused, Put}
+use Rattle.walk_line.specs.Line.{Decimal, Pair, pair, state, refusedWord, inputRefusal, inputOf, Line, done, refused, Put}
 
 -- a number of 64 bits has at most 20 digits
 pub at-most-20 : (n k : ℕ) → n < 2 ^ 64 → Fewest 10 1 n k → k ≤ 20
@@ -41,8 +41,8 @@ module _ {x₀ x₁ : List ℕ} {p₀ p₁ : ℕ} where
       pub put-pair : {a b : ℕ} → Put (Decimal a) x₀ x₁ p₀ p₁ → Wrote x₁ x₂ p₁ p₂ (0x20 ∷ []) → Put (Decimal b) x₂ x₃ p₂ p₃ → Put (Pair a b) x₀ x₃ p₀ p₃
       put-pair x w y = record { text = x .text ++ (0x20 ∷ y .text); kind = pair (x .kind) (y .kind); wrote = wrote-then (x .wrote) (wrote-then w (y .wrote)) }
 
-      pub put-refused : {a b : ℕ} → Wrote x₀ x₁ p₀ p₁ refusal → Put (Pair a b) x₁ x₂ p₁ p₂ → Wrote x₂ x₃ p₂ p₃ (0x0a ∷ []) → Put (Line (Refused a b)) x₀ x₃ p₀ p₃
-      put-refused v x w = record { text = refusal ++ (x .text ++ (0x0a ∷ [])); kind = refused (x .kind); wrote = wrote-then v (wrote-then (x .wrote) w) }
+      pub put-refused : {a b : ℕ} → Wrote x₀ x₁ p₀ p₁ refusedWord → Put (Pair a b) x₁ x₂ p₁ p₂ → Wrote x₂ x₃ p₂ p₃ (0x0a ∷ []) → Put (Line (Refused a b)) x₀ x₃ p₀ p₃
+      put-refused v x w = record { text = refusedWord ++ (x .text ++ (0x0a ∷ [])); kind = refused (x .kind); wrote = wrote-then v (wrote-then (x .wrote) w) }
 
 -- ---- the judgement of 18
 

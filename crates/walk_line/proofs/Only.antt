@@ -11,7 +11,7 @@ use lib.ListN.{length}
 use Rattle.io.specs.Digits.{digits, Fewest}
 use Rattle.wire.specs.Wire.{splice}
 use Rattle.de.specs.declared.Walked.{Walked}
-use Rattle.walk_line.specs.Line.{Decimal, Pair, pair, state, refusal, Line, done, refused, Put}
+use Rattle.walk_line.specs.Line.{Decimal, Pair, pair, state, refusedWord, Line, done, refused, Put}
 
 no-fewer : (n a b : ℕ) → Fewest 10 1 n a → Fewest 10 1 n b → a < b → ⊥
 no-fewer n a b f g l =
@@ -33,7 +33,7 @@ one-pair (pair p q) (pair r s) = ap₂ (λ (u v : List ℕ). u ++ (0x20 ∷ v)) 
 
 pub one-line : {w : Walked} {x y : List ℕ} → Line w x → Line w y → x ≡ y
 one-line (done {whole = b} p) (done q) = ap (λ (u : List ℕ). u ++ state b) (one-pair p q)
-one-line (refused p) (refused q) = ap (λ (u : List ℕ). refusal ++ (u ++ (0x0a ∷ []))) (one-pair p q)
+one-line (refused p) (refused q) = ap (λ (u : List ℕ). refusedWord ++ (u ++ (0x0a ∷ []))) (one-pair p q)
 
 -- the number of bytes, and every byte of the buffer
 pub one-report : {w : Walked} {before x y : List ℕ} {n m : ℕ} → Put (Line w) before x 0 n → Put (Line w) before y 0 m → (n ≡ m) × (x ≡ y)

@@ -36,13 +36,13 @@ state true = 0x20 ∷ 0x77 ∷ 0x68 ∷ 0x6f ∷ 0x6c ∷ 0x65 ∷ 0x0a ∷ []
 state false = 0x20 ∷ 0x63 ∷ 0x75 ∷ 0x74 ∷ 0x0a ∷ []
 
 -- "refused "
-abbrev pub refusal : List ℕ
-refusal = 0x72 ∷ 0x65 ∷ 0x66 ∷ 0x75 ∷ 0x73 ∷ 0x65 ∷ 0x64 ∷ 0x20 ∷ []
+abbrev pub refusedWord : List ℕ
+refusedWord = 0x72 ∷ 0x65 ∷ 0x66 ∷ 0x75 ∷ 0x73 ∷ 0x65 ∷ 0x64 ∷ 0x20 ∷ []
 
 -- events, stray bytes and state; or the refusal's number and offset
 pub data Line : Walked → List ℕ → Type 0 where
   done : {events stray place : ℕ} {whole : Bool} {x : List ℕ} → Pair events stray x → Line (Done events stray whole place) (x ++ state whole)
-  refused : {number offset : ℕ} {x : List ℕ} → Pair number offset x → Line (Refused number offset) (refusal ++ (x ++ (0x0a ∷ [])))
+  refused : {number offset : ℕ} {x : List ℕ} → Pair number offset x → Line (Refused number offset) (refusedWord ++ (x ++ (0x0a ∷ [])))
 
 -- a text of some kind was written
 pub record Put (is : List ℕ → Type 0) (before after : List ℕ) (at next : ℕ) : Type 0 where

@@ -2,7 +2,7 @@
 -- Assumes nothing.
 use borrow.Author.Needs.{needs}
 use mathlib.Core.Path.{sym, _∙_}
-use Rattle.judging.proofs.Passes.{codes-within}
+use Rattle.read_judge.proofs.Passes.{codes-within}
 use Rattle.repair_scan.proofs.Laws.{codes-none, codes-unlisted, codes-many, codes-there}
 use Rattle.repair_scan.proofs.from_codes.Statement.{statement}
 use Rattle.repair_scan.proofs.from_codes.Tie as tie

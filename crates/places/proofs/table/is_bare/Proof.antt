@@ -1,8 +1,7 @@
 -- `places::table::is_bare` meets its contract.
 -- Assumes nothing.
 use native.Mathlib.Omega.{arith}
-use Rattle.places.proofs.Laws.{never}
-use Rattle.places.proofs.Laws.{bare-equal, bare-none}
+use Rattle.places.proofs.Laws.{never, bare-equal, bare-none}
 use Rattle.places.proofs.table.is_bare.Statement.{statement}
 use Rattle.places.proofs.table.is_bare.Tie as tie
 

@@ -1,7 +1,6 @@
 -- `places::table::is_calm` meets its contract.
 -- Assumes nothing.
-use Rattle.places.proofs.Laws.{never}
-use Rattle.places.proofs.Laws.{bare-all}
+use Rattle.places.proofs.Laws.{never, bare-all}
 use Rattle.places.proofs.table.is_calm.Statement.{statement}
 use Rattle.places.proofs.table.is_calm.Tie as tie
 

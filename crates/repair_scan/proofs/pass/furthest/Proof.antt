@@ -6,9 +6,9 @@ use Prim.Native.Nat.{_+_, _-_, _^_}
 use native.Mathlib.Omega.{arith}
 use lib.ListN.{length, getD}
 use Rattle.grammar.specs.WellFormed.{ascending}
-use Rattle.frame_scan.proofs.Counting.{under-to}
-use Rattle.frame_scan.proofs.Turns.{tried-as}
-use Rattle.frame_scan.specs.declared.event.Turn.the-variants.{Goes, Refused}
+use Rattle.read_scan.proofs.Counting.{under-to}
+use Rattle.read_scan.proofs.Turns.{tried-as}
+use Rattle.read_scan.specs.declared.event.Turn.the-variants.{Goes, Refused}
 use Rattle.repair_scan.proofs.Laws.{Turning, turn-first, turn-end, turn-other, turn-refused, turn-goes}
 use Rattle.repair_scan.proofs.pass.furthest.Statement.{statement}
 use Rattle.repair_scan.proofs.pass.furthest.Tie as tie

@@ -1,9 +1,0 @@
-pub mod Back
-pub mod Held
-pub mod Frame
-pub mod Case1
-pub mod Case6
-pub mod Case7
-pub mod Case8
-pub mod Case9
-pub mod Seated9

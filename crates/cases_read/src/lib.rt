@@ -1,1 +1,0 @@
-// The worked cases' files and what is read of them: definitions and laws only.

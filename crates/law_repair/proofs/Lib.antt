@@ -1,0 +1,4 @@
+pub mod Accepted
+pub mod Calls
+pub mod Itself
+pub mod Only

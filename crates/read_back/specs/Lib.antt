@@ -1,4 +1,0 @@
-pub mod Slots
-pub mod Bytes
-pub mod Returned
-pub mod Codes

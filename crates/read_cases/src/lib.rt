@@ -1,1 +1,0 @@
-// Small files and what is read of them: definitions and laws only.

@@ -1,0 +1,9 @@
+pub mod Walked
+pub mod Opening
+pub mod StartLaws
+pub mod Stages
+pub mod Places
+pub mod Opens
+pub mod Steps
+pub mod Passes
+pub mod Before

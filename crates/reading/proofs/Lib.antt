@@ -1,6 +1,0 @@
-pub mod Needs
-pub mod Tails
-pub mod Answers
-pub mod Only
-pub mod Outcomes
-pub mod Written

@@ -1,3 +1,0 @@
-pub mod Game
-pub mod Read
-pub mod Inner
