@@ -18,7 +18,8 @@ use Rattle.game.specs.Stores.{Lent}
 use Rattle.record.specs.Record.{readBack}
 use Rattle.grammar.specs.WellFormed.{Each}
 use Rattle.read_event.specs.Inner.{Plan, spansOf, spanBy, Told, toldAt, toldBy, opens, openAfter, nextAfter, marked, offsetMarked, blockOf, seated, rowPut, playerPut, bitPut, step, run, finish, none, Long, Sized, Spelled, SomeSpelled, Rooms}
-use Rattle.read_event.specs.Parts.{SizedBy, SpelledBy, SomeBy, WholeBy, fold, LeftBy, Rows, RowPlan, RowSpans, RowRooms, firstBy, openTold, seenTold, rowsTold, Rowing, rowing, goRows, rowsDone, rowsRun, Seats, Seating, SeatSpans, SeatRooms, seatTold, Seated, seatedAs, goSeats, seatsRun, rowPlanOf, seatingOf, rowsOf, seatsOf, lentOf}
+use Rattle.read_event.specs.Parts.{SizedBy, SpelledBy, SomeBy, WholeBy, fold, LeftBy, Rows, RowPlan, RowSpans, RowRooms, firstBy, openTold, seenTold, rowsTold, Rowing, rowing, goRows}
+use Rattle.read_event.specs.Parts.{rowsDone, rowsRun, Seats, Seating, SeatSpans, SeatRooms, seatTold, Seated, seatedAs, goSeats, seatsRun, rowPlanOf, seatingOf, rowsOf, seatsOf, lentOf}
 use Rattle.read_event.specs.declared.seen.Open.{Open}
 use Rattle.read_event.specs.declared.seen.Seen.{Seen}
 use Rattle.read_event.specs.declared.spans.Spans.{Spans}

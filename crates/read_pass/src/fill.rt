@@ -60,9 +60,11 @@ pub fn fill_events(
         × SomeSpelled (planOf f) (now file) first stop
         × Rooms (planOf f) (lent (cells (now ids) (now starts) (now pres) (now posts) (now ends) (now items) (now fods) (now whispys) (now stadiums)) (offsets (now «item_offsets») (now «fod_offsets») (now «whispy_offsets») (now «stadium_offsets»)) (now presence)) ⌝ }
     ensures { λ r. ⌜ ((es : List Ev) → Spelled (planOf f) (now (file .entry)) first stop es
-        → lent (cells (now (ids .exit)) (now (starts .exit)) (now (pres .exit)) (now (posts .exit)) (now (ends .exit)) (now (items .exit)) (now (fods .exit)) (now (whispys .exit)) (now (stadiums .exit))) (offsets (now («item_offsets» .exit)) (now («fod_offsets» .exit)) (now («whispy_offsets» .exit)) (now («stadium_offsets» .exit))) (now (presence .exit))
+        → lent (cells (now (ids .exit)) (now (starts .exit)) (now (pres .exit)) (now (posts .exit)) (now (ends .exit)) (now (items .exit)) (now (fods .exit)) (now (whispys .exit)) (now (stadiums .exit)))
+        (offsets (now («item_offsets» .exit)) (now («fod_offsets» .exit)) (now («whispy_offsets» .exit)) (now («stadium_offsets» .exit))) (now (presence .exit))
         ≡ run (planOf f) es none
-        (cleared f (lent (cells (now (ids .entry)) (now (starts .entry)) (now (pres .entry)) (now (posts .entry)) (now (ends .entry)) (now (items .entry)) (now (fods .entry)) (now (whispys .entry)) (now (stadiums .entry))) (offsets (now («item_offsets» .entry)) (now («fod_offsets» .entry)) (now («whispy_offsets» .entry)) (now («stadium_offsets» .entry))) (now (presence .entry))))) ⌝ }
+        (cleared f (lent (cells (now (ids .entry)) (now (starts .entry)) (now (pres .entry)) (now (posts .entry)) (now (ends .entry)) (now (items .entry)) (now (fods .entry)) (now (whispys .entry)) (now (stadiums .entry)))
+        (offsets (now («item_offsets» .entry)) (now («fod_offsets» .entry)) (now («whispy_offsets» .entry)) (now («stadium_offsets» .entry))) (now (presence .entry))))) ⌝ }
 {
     let s = slots_of(f);
     let numbers = numbers_of(f, s);

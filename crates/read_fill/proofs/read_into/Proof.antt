@@ -13,50 +13,81 @@ frames-in-requires c κs = let s = c .before .before .before .before .before .be
 
 fill-events-requires : tie.Need-fill-events-requires
 fill-events-requires c κs =
-    let s = c .before .before .before .before .before .before .before .before .before .before .before .before .before .before .before .before .before .before .before .before .before .before .before .before .before .before .before .before .before .before .before in
+    let c14 = c .before .before .before .before .before .before .before .before .before .before .before .before .before .before in
+    let c31 = c14 .before .before .before .before .before .before .before .before .before .before .before .before .before .before .before .before .before in
+    let s = c31 in
     let a = s .args in
-    let g = c .before .before .before .before .before .before .before .before .before .before .before .before .before .before .frames-in in
-    asked (a .file .now) (a .first) (a .stop) (a .p) (s .pre .0) (kept (lent (cells (a .ids .now) (a .starts .now) (a .pres .now) (a .posts .now) (a .ends .now) (a .items .now) (a .fods .now) (a .whispys .now) (a .stadiums .now)) (offsets (a .item-offsets .now) (a .fod-offsets .now) (a .whispy-offsets .now) (a .stadium-offsets .now)) (a .presence .now)) (a .codes .now)) (s .pre .1) (g .result) (g .ensures)
+    let g = c14 .frames-in in
+    asked (a .file .now) (a .first) (a .stop) (a .p) (s .pre .0)
+    (kept (lent (cells (a .ids .now) (a .starts .now) (a .pres .now) (a .posts .now) (a .ends .now) (a .items .now) (a .fods .now) (a .whispys .now) (a .stadiums .now)) (offsets (a .item-offsets .now) (a .fod-offsets .now) (a .whispy-offsets .now) (a .stadium-offsets .now))
+    (a .presence .now)) (a .codes .now)) (s .pre .1) (g .result) (g .ensures)
 
 copy-codes-requires : tie.Need-copy-codes-requires
 copy-codes-requires c κs =
-    let s = c .before .before .before .before .before .before .before .before .before .before .before .before .before .before .before .before .before .before .before .before .before .before .before .before .before .before .before .before .before .before .before .before .before .before .before .before .before .before .before .before .before .before .before .before .before .before .before .before .before .before .before .before .before .before .before .before .before .before .before .before .before in
+    let c30 = c .before .before .before .before .before .before .before .before .before .before .before .before .before .before .before .before .before .before .before .before .before .before .before .before .before .before .before .before .before .before in
+    let c61 = c30 .before .before .before .before .before .before .before .before .before .before .before .before .before .before .before .before .before .before .before .before .before .before .before .before .before .before .before .before .before .before .before in
+    let s = c61 in
     let a = s .args in
-    codes-asked (a .file .now) (a .first) (a .stop) (a .p) (s .pre .0) (kept (lent (cells (a .ids .now) (a .starts .now) (a .pres .now) (a .posts .now) (a .ends .now) (a .items .now) (a .fods .now) (a .whispys .now) (a .stadiums .now)) (offsets (a .item-offsets .now) (a .fod-offsets .now) (a .whispy-offsets .now) (a .stadium-offsets .now)) (a .presence .now)) (a .codes .now)) (s .pre .1)
+    codes-asked (a .file .now) (a .first) (a .stop) (a .p) (s .pre .0)
+    (kept (lent (cells (a .ids .now) (a .starts .now) (a .pres .now) (a .posts .now) (a .ends .now) (a .items .now) (a .fods .now) (a .whispys .now) (a .stadiums .now)) (offsets (a .item-offsets .now) (a .fod-offsets .now) (a .whispy-offsets .now) (a .stadium-offsets .now))
+    (a .presence .now)) (a .codes .now)) (s .pre .1)
 
 same-length : tie.Need-same-length
-same-length c = c .before .before .before .before .before .before .before .before .before .before .before .before .before .before .before .before .before .before .before .before .before .before .before .before .before .before .before .before .before .before .before .before .fill-events .kept .1 .1 .1 .1 .0
+same-length c =
+    let c32 = c .before .before .before .before .before .before .before .before .before .before .before .before .before .before .before .before .before .before .before .before .before .before .before .before .before .before .before .before .before .before .before .before in
+    c32 .fill-events .kept .1 .1 .1 .1 .0
 
 same-length-2 : tie.Need-same-length-2
-same-length-2 c = c .before .before .before .before .before .before .before .before .before .before .before .before .before .before .before .before .before .before .before .before .before .before .before .before .before .before .before .before .before .before .before .before .fill-events .kept .1 .1 .1 .1 .1 .0
+same-length-2 c =
+    let c32 = c .before .before .before .before .before .before .before .before .before .before .before .before .before .before .before .before .before .before .before .before .before .before .before .before .before .before .before .before .before .before .before .before in
+    c32 .fill-events .kept .1 .1 .1 .1 .1 .0
 
 same-length-3 : tie.Need-same-length-3
-same-length-3 c = c .before .before .before .before .before .before .before .before .before .before .before .before .before .before .before .before .before .before .before .before .before .before .before .before .before .before .before .before .before .before .before .before .fill-events .kept .1 .1 .1 .1 .1 .1 .0
+same-length-3 c =
+    let c32 = c .before .before .before .before .before .before .before .before .before .before .before .before .before .before .before .before .before .before .before .before .before .before .before .before .before .before .before .before .before .before .before .before in
+    c32 .fill-events .kept .1 .1 .1 .1 .1 .1 .0
 
 same-length-4 : tie.Need-same-length-4
-same-length-4 c = c .before .before .before .before .before .before .before .before .before .before .before .before .before .before .before .before .before .before .before .before .before .before .before .before .before .before .before .before .before .before .before .before .fill-events .kept .1 .1 .1 .1 .1 .1 .1 .0
+same-length-4 c =
+    let c32 = c .before .before .before .before .before .before .before .before .before .before .before .before .before .before .before .before .before .before .before .before .before .before .before .before .before .before .before .before .before .before .before .before in
+    c32 .fill-events .kept .1 .1 .1 .1 .1 .1 .1 .0
 
 same-length-5 : tie.Need-same-length-5
-same-length-5 c = c .before .before .before .before .before .before .before .before .before .before .before .before .before .before .before .before .before .before .before .before .before .before .before .before .before .before .before .before .before .before .before .before .fill-events .kept .1 .1 .1 .1 .1 .1 .1 .1 .0
+same-length-5 c =
+    let c32 = c .before .before .before .before .before .before .before .before .before .before .before .before .before .before .before .before .before .before .before .before .before .before .before .before .before .before .before .before .before .before .before .before in
+    c32 .fill-events .kept .1 .1 .1 .1 .1 .1 .1 .1 .0
 
 same-length-6 : tie.Need-same-length-6
-same-length-6 c = c .before .before .before .before .before .before .before .before .before .before .before .before .before .before .before .before .before .before .before .before .before .before .before .before .before .before .before .before .before .before .before .before .fill-events .kept .1 .1 .1 .1 .1 .1 .1 .1 .1 .0
+same-length-6 c =
+    let c32 = c .before .before .before .before .before .before .before .before .before .before .before .before .before .before .before .before .before .before .before .before .before .before .before .before .before .before .before .before .before .before .before .before in
+    c32 .fill-events .kept .1 .1 .1 .1 .1 .1 .1 .1 .1 .0
 
 same-length-7 : tie.Need-same-length-7
-same-length-7 c = c .before .before .before .before .before .before .before .before .before .before .before .before .before .before .before .before .before .before .before .before .before .before .before .before .before .before .before .before .before .before .before .before .fill-events .kept .1 .1 .1 .1 .1 .1 .1 .1 .1 .1 .0
+same-length-7 c =
+    let c32 = c .before .before .before .before .before .before .before .before .before .before .before .before .before .before .before .before .before .before .before .before .before .before .before .before .before .before .before .before .before .before .before .before in
+    c32 .fill-events .kept .1 .1 .1 .1 .1 .1 .1 .1 .1 .1 .0
 
 same-length-8 : tie.Need-same-length-8
-same-length-8 c = c .before .before .before .before .before .before .before .before .before .before .before .before .before .before .before .before .before .before .before .before .before .before .before .before .before .before .before .before .before .before .before .before .fill-events .kept .1 .1 .1 .1 .1 .1 .1 .1 .1 .1 .1 .0
+same-length-8 c =
+    let c32 = c .before .before .before .before .before .before .before .before .before .before .before .before .before .before .before .before .before .before .before .before .before .before .before .before .before .before .before .before .before .before .before .before in
+    c32 .fill-events .kept .1 .1 .1 .1 .1 .1 .1 .1 .1 .1 .1 .0
 
 same-length-9 : tie.Need-same-length-9
-same-length-9 c = c .before .before .before .before .before .before .before .before .before .before .before .before .before .before .before .before .before .before .before .before .before .before .before .before .before .before .before .before .before .before .before .before .fill-events .kept .1 .1 .1 .1 .1 .1 .1 .1 .1 .1 .1 .1 .0
+same-length-9 c =
+    let c32 = c .before .before .before .before .before .before .before .before .before .before .before .before .before .before .before .before .before .before .before .before .before .before .before .before .before .before .before .before .before .before .before .before in
+    c32 .fill-events .kept .1 .1 .1 .1 .1 .1 .1 .1 .1 .1 .1 .1 .0
 
 returns : tie.Need-returns
 returns c x =
-    let s = c .before .before .before .before .before .before .before .before .before .before .before .before .before .before .before .before .before .before .before .before .before .before .before .before .before .before .before .before .before .before .before .before .before .before .before .before .before .before .before .before .before .before .before .before .before .before .before .before .before .before .before .before .before .before .before .before .before .before .before .before .before .before .before .before in
+    let c30 = c .before .before .before .before .before .before .before .before .before .before .before .before .before .before .before .before .before .before .before .before .before .before .before .before .before .before .before .before .before .before in
+    let s = c30 .before .before .before .before .before .before .before .before .before .before .before .before .before .before .before .before .before .before .before .before .before .before .before .before .before .before .before .before .before .before .before .before .before .before in
     let a = s .args in
-    let g = c .before .before .before .before .before .before .before .before .before .before .before .before .before .before .before .before .before .before .before .before .before .before .before .before .before .before .before .before .before .before .before .before .before .before .before .before .before .before .before .before .before .before .before .before .before .before .before .frames-in in
-    learnt (a .file .now) (a .first) (a .stop) (a .p) x (kept (lent (cells (a .ids .now) (a .starts .now) (a .pres .now) (a .posts .now) (a .ends .now) (a .items .now) (a .fods .now) (a .whispys .now) (a .stadiums .now)) (offsets (a .item-offsets .now) (a .fod-offsets .now) (a .whispy-offsets .now) (a .stadium-offsets .now)) (a .presence .now)) (a .codes .now)) (s .pre .1) _ _ (g .result) (g .ensures) (c .before .before .before .before .before .before .before .before .before .before .before .before .before .before .before .before .before .before .before .before .before .before .before .before .before .before .before .before .before .before .before .before .fill-events .ensures) (c .before .before .copy-codes .ensures)
+    let g = c30 .before .before .before .before .before .before .before .before .before .before .before .before .before .before .before .before .before .frames-in in
+    learnt (a .file .now) (a .first) (a .stop) (a .p) x
+    (kept (lent (cells (a .ids .now) (a .starts .now) (a .pres .now) (a .posts .now) (a .ends .now) (a .items .now) (a .fods .now) (a .whispys .now) (a .stadiums .now)) (offsets (a .item-offsets .now) (a .fod-offsets .now) (a .whispy-offsets .now) (a .stadium-offsets .now))
+    (a .presence .now)) (a .codes .now)) (s .pre .1) _ _ (g .result) (g .ensures)
+    (c .before .before .before .before .before .before .before .before .before .before .before .before .before .before .before .before .before .before .before .before .before .before .before .before .before .before .before .before .before .before .before .before .fill-events .ensures)
+    (c .before .before .copy-codes .ensures)
 
 pub read-into-spec : {M : Type 1} → statement M
 read-into-spec =

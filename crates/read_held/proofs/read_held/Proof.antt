@@ -33,13 +33,17 @@ read-into-requires c κs =
 
 gecko-span-requires : tie.Need-gecko-span-requires
 gecko-span-requires c κs =
-    let b32 = c .before .before .before .before .before .before .before .before .before .before .before .before .before .before .before .before .before .before .before .before .before .before .before .before .before .before .before .before .before .before .before .before in
-    let s = b32 .before .before .before .before .before .before .before .before .before .before .before .before .before .before .before .before .before .before .before .before .before .before .before .before .before .before .before .before .before .before .before .before .before in let a = s .args in first-room (a .file .now) (a .first) (a .stop) (a .p) (s .pre)
+    let c32 = c .before .before .before .before .before .before .before .before .before .before .before .before .before .before .before .before .before .before .before .before .before .before .before .before .before .before .before .before .before .before .before .before in
+    let b32 = c32 in
+    let b48 = b32 .before .before .before .before .before .before .before .before .before .before .before .before .before .before .before .before in
+    let s = b48 .before .before .before .before .before .before .before .before .before .before .before .before .before .before .before .before .before in let a = s .args in first-room (a .file .now) (a .first) (a .stop) (a .p) (s .pre)
 
 opened-requires : tie.Need-opened-requires
 opened-requires c κs =
-    let b33 = c .before .before .before .before .before .before .before .before .before .before .before .before .before .before .before .before .before .before .before .before .before .before .before .before .before .before .before .before .before .before .before .before .before in
-    (c .gecko-span .ensures, b33 .before .before .before .before .before .before .before .before .before .before .before .before .before .before .before .before .before .before .before .before .before .before .before .before .before .before .before .before .before .before .before .before .before .pre)
+    let c33 = c .before .before .before .before .before .before .before .before .before .before .before .before .before .before .before .before .before .before .before .before .before .before .before .before .before .before .before .before .before .before .before .before .before in
+    let b33 = c33 in
+    let b49 = b33 .before .before .before .before .before .before .before .before .before .before .before .before .before .before .before .before in
+    (c .gecko-span .ensures, b49 .before .before .before .before .before .before .before .before .before .before .before .before .before .before .before .before .before .pre)
 
 same-length : tie.Need-same-length
 same-length c =

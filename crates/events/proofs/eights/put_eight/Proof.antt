@@ -33,25 +33,38 @@ lay-out-requires c κs =
 
 put-parts-requires : tie.Need-put-parts-requires
 put-parts-requires c κs =
-    let s = c .before .before .before .before .before .before .before .before .before .before .before .before .before .before .before .before .before .before .before .before .before .before in
+    let c5 = c .before .before .before .before .before in
+    let c6 = c5 .before in
+    let c22 = c6 .before .before .before .before .before .before .before .before .before .before .before .before .before .before .before .before in
+    let s = c22 in
     let a = s .args in
-    let h = c .before .before .before .before .before .before .spans-of .ensures in
-    let z = c .before .before .before .before .before .before .spans-of .result in
-    let d = c .before .before .before .lay-out .ensures in
-    (s .pre .0, s .pre .1, s .pre .2, laid-apiece (a .shapes) (a .s) (all s) _ (a .i) (s .pre .0) (s .pre .2) z h d, laid-rooms (a .shapes) (a .s) (all s) _ (a .i) (s .pre .0) (s .pre .2) z h d (s .pre .3), calm-absent (a .shapes) (a .s) (all s) _ (a .i) (s .pre .0) (s .pre .2) z h (c .before .before .before .before .before .is-calm .result) (c .before .before .before .before .before .is-calm .ensures))
+    let h = c6 .spans-of .ensures in
+    let z = c6 .spans-of .result in
+    let d = c .before .before .before .lay-out .ensures in (
+      s .pre .0,
+      s .pre .1,
+      s .pre .2,
+      laid-apiece (a .shapes) (a .s) (all s) _ (a .i) (s .pre .0) (s .pre .2) z h d,
+      laid-rooms (a .shapes) (a .s) (all s) _ (a .i) (s .pre .0) (s .pre .2) z h d (s .pre .3),
+      calm-absent (a .shapes) (a .s) (all s) _ (a .i) (s .pre .0) (s .pre .2) z h
+          (c5 .is-calm .result) (c5 .is-calm .ensures),
+    )
 
 returns : tie.Need-returns
 returns c =
-    let s = c .before .before .before .before .before .before .before .before .before .before .before .before .before .before .before .before .before .before .before .before .before .before .before .before .before in
+    let c6 = c .before .before .before .before .before .before in
+    let c9 = c6 .before .before .before in
+    let c25 = c9 .before .before .before .before .before .before .before .before .before .before .before .before .before .before .before .before in
+    let s = c25 in
     let a = s .args in
-    laid-wrote (a .shapes) (a .s) (all s) _ (a .i) (s .pre .0) (s .pre .2) (c .before .before .before .before .before .before .before .before .before .spans-of .result) (c .before .before .before .before .before .before .before .before .before .spans-of .ensures) (c .before .before .before .before .before .before .lay-out .ensures) (c .before .before .put-parts .ensures)
+    laid-wrote (a .shapes) (a .s) (all s) _ (a .i) (s .pre .0) (s .pre .2) (c9 .spans-of .result) (c9 .spans-of .ensures) (c6 .lay-out .ensures) (c .before .before .put-parts .ensures)
 
 pub put-eight-spec : {M : Type 1} → statement M
 put-eight-spec =
     tie.close
     (tie.spec
     spans-of-requires
-    (λ c. omega (arith, c .before .before .before .before .before .before .before .before .before .before .before .before .before .before .before .before .pre .1, c .before .before .before .before .before .before .before .before .before .before .before .before .before .before .before .before .pre .0 .frames))
+    (λ c. let c16 = c .before .before .before .before .before .before .before .before .before .before .before .before .before .before .before .before in omega (arith, c16 .pre .1, c16 .pre .0 .frames))
     is-calm-requires
     (λ c. search needs)
     lay-out-requires

@@ -33,8 +33,15 @@ put-middles-requires c κs =
     let c1 = c2 .before .before .before .before in
     let s = c1 .before .before .before .before .before .before .before .before .before .before .before .before .before .before .before .before .before .before in
     let a = s .args in
-    let g = s .pre .0 in
-    ((g .fod, g .whispy, g .stadium, g .item), s .pre .1, omega (arith, s .pre .3 .few), room-3 (a .shapes) (a .s) (all s) (a .i) (a .places .now) (s .pre .4) (c1 .put-ones .result) (c1 .put-ones .ensures) (c2 .put-teams .result) (c2 .put-teams .ensures), back-3 (a .shapes) (a .s) (all s) (a .i) (a .places .now) (s .pre .4) (c1 .put-ones .result) (c1 .put-ones .ensures) (c2 .put-teams .result) (c2 .put-teams .ensures) (s .pre .3), s .pre .5)
+    let g = s .pre .0 in (
+      (g .fod, g .whispy, g .stadium, g .item),
+      s .pre .1,
+      omega (arith, s .pre .3 .few),
+      room-3 (a .shapes) (a .s) (all s) (a .i) (a .places .now) (s .pre .4) (c1 .put-ones .result) (c1 .put-ones .ensures) (c2 .put-teams .result) (c2 .put-teams .ensures),
+      back-3 (a .shapes) (a .s) (all s)
+          (a .i) (a .places .now) (s .pre .4) (c1 .put-ones .result) (c1 .put-ones .ensures) (c2 .put-teams .result) (c2 .put-teams .ensures) (s .pre .3),
+      s .pre .5,
+    )
 
 put-teams-requires-2 : tie.Need-put-teams-requires-2
 put-teams-requires-2 c κs =
@@ -43,8 +50,17 @@ put-teams-requires-2 c κs =
     let c1 = c2 .before .before .before .before in
     let s = c1 .before .before .before .before .before .before .before .before .before .before .before .before .before .before .before .before .before .before in
     let a = s .args in
-    let g = s .pre .0 .post in
-    (g .laid, s .pre .0 .seats, omega (arith, g .rows, s .pre .1), omega (arith, g .rows, s .pre .0 .frames), s .pre .1, omega (arith, s .pre .3 .few), s .pre .2, room-4 (a .shapes) (a .s) (all s) (a .i) (a .places .now) (s .pre .4) (c1 .put-ones .result) (c1 .put-ones .ensures) (c2 .put-teams .result) (c2 .put-teams .ensures) (c3 .put-middles .ensures))
+    let g = s .pre .0 .post in (
+      g .laid,
+      s .pre .0 .seats,
+      omega (arith, g .rows, s .pre .1),
+      omega (arith, g .rows, s .pre .0 .frames),
+      s .pre .1,
+      omega (arith, s .pre .3 .few),
+      s .pre .2,
+      room-4 (a .shapes) (a .s) (all s) (a .i) (a .places .now) (s .pre .4) (c1 .put-ones .result) (c1 .put-ones .ensures)
+          (c2 .put-teams .result) (c2 .put-teams .ensures) (c3 .put-middles .ensures),
+    )
 
 put-ones-requires-2 : tie.Need-put-ones-requires-2
 put-ones-requires-2 c κs =
@@ -54,8 +70,14 @@ put-ones-requires-2 c κs =
     let c1 = c2 .before .before .before .before in
     let s = c1 .before .before .before .before .before .before .before .before .before .before .before .before .before .before .before .before .before .before in
     let a = s .args in
-    let g = s .pre .0 .end in
-    (g .laid, omega (arith, g .rows, s .pre .1), s .pre .1, omega (arith, s .pre .3 .few), room-5 (a .shapes) (a .s) (all s) (a .i) (a .places .now) (s .pre .4) (c1 .put-ones .result) (c1 .put-ones .ensures) (c2 .put-teams .result) (c2 .put-teams .ensures) (c3 .put-middles .ensures) (c4 .put-teams2 .result) (c4 .put-teams2 .ensures))
+    let g = s .pre .0 .end in (
+      g .laid,
+      omega (arith, g .rows, s .pre .1),
+      s .pre .1,
+      omega (arith, s .pre .3 .few),
+      room-5 (a .shapes) (a .s) (all s) (a .i) (a .places .now) (s .pre .4) (c1 .put-ones .result) (c1 .put-ones .ensures) (c2 .put-teams .result) (c2 .put-teams .ensures) (c3 .put-middles .ensures)
+          (c4 .put-teams2 .result) (c4 .put-teams2 .ensures),
+    )
 
 same-length : tie.Need-same-length
 same-length c =

@@ -32,35 +32,57 @@ add-first c =
 
 put-eight-rows-requires : tie.Need-put-eight-rows-requires Inv-loop μ-loop
 put-eight-rows-requires c κs =
-    let s = c .before .before .before .before .before .before .before .before .before .before .before .before .before .before .before .before .before in
+    let c5 = c .before .before .before .before .before in
+    let c10 = c5 .before .before .before .before .before in
+    let c11 = c10 .before in
+    let c17 = c11 .before .before .before .before .before .before in
+    let s = c17 in
     let a = s .args in
-    let l = c .before .before .before .before .before .before .before .before .before .before .before .loop in
+    let l = c11 .loop in
     let q = s .pre .0 in
-    let t = c .before .before .before .before .before .before .before .before .before .before .loop-test .taken in
-    let here = sym (c .before .before .before .before .before .is-present .ensures) ∙ c .before .before .before .before .if1 .taken in
+    let t = c10 .loop-test .taken in
+    let here = sym (c5 .is-present .ensures) ∙ c .before .before .before .before .if1 .taken in
     let inside = row-in (a .t5) (a .cells .now) (a .t6 .count) (l .k) (a .i + 7) q t (omega arith) in
     let e : l .first + 7 ≡ l .k * a .t5 .block + (a .i + 7) = omega (arith, l .inv .1) in
-    let room = rest-room (playerOn (a .t5) (a .t6) (a .cells .now) (a .presence .now) (a .ids .now) (a .i) (l .k)) (playersFrom (a .t5) (a .t6) (a .cells .now) (a .presence .now) (a .ids .now) (a .i) (l .k + 1)) (l .inv .2) (λ j h. players-step (a .t5) (a .t6) (a .cells .now) (a .presence .now) (a .ids .now) (a .i) (l .k) t j) (s .pre .7) in
+    let room = rest-room (playerOn (a .t5) (a .t6) (a .cells .now) (a .presence .now) (a .ids .now) (a .i) (l .k)) (playersFrom (a .t5) (a .t6) (a .cells .now) (a .presence .now) (a .ids .now) (a .i) (l .k + 1)) (l .inv .2) (λ j h. players-step (a .t5) (a .t6) (a .cells .now)
+    (a .presence .now) (a .ids .now) (a .i) (l .k) t j) (s .pre .7) in
     (q .few, q .total, rw e inside, s .pre .4, s .pre .5, rooms-as _ (player-here (a .t5) (a .t6) (a .cells .now) (a .presence .now) (a .ids .now) (a .i) (l .k) (l .first) t (l .inv .1) (s .pre .6) here) room)
 
 loop-again : tie.Need-loop-again Inv-loop μ-loop
 loop-again c =
-    let s = c .before .before .before .before .before .before .before .before .before .before .before .before .before .before .before .before .before .before .before .before in
+    let c7 = c .before .before .before .before .before .before .before in
+    let c8 = c7 .before in
+    let c13 = c8 .before .before .before .before .before in
+    let c14 = c13 .before in
+    let c20 = c14 .before .before .before .before .before .before in
+    let s = c20 in
     let a = s .args in
-    let l = c .before .before .before .before .before .before .before .before .before .before .before .before .before .before .loop in
-    let t = c .before .before .before .before .before .before .before .before .before .before .before .before .before .loop-test .taken in
-    let here = sym (c .before .before .before .before .before .before .before .before .is-present .ensures) ∙ c .before .before .before .before .before .before .before .if1 .taken in
-    let sown = sown-as (playerOn (a .t5) (a .t6) (a .cells .now) (a .presence .now) (a .ids .now) (a .i) (l .k)) (λ j h. sym (player-here (a .t5) (a .t6) (a .cells .now) (a .presence .now) (a .ids .now) (a .i) (l .k) (l .first) t (l .inv .1) (s .pre .6) here j h)) (c .before .before .put-eight-rows .ensures) in
-    (omega (arith, t), next-first _ (l .k) _ _ (l .inv .1), rest-step (playerOn (a .t5) (a .t6) (a .cells .now) (a .presence .now) (a .ids .now) (a .i) (l .k)) (playersFrom (a .t5) (a .t6) (a .cells .now) (a .presence .now) (a .ids .now) (a .i) (l .k + 1)) (l .inv .2) (λ j h. players-step (a .t5) (a .t6) (a .cells .now) (a .presence .now) (a .ids .now) (a .i) (l .k) t j) (s .pre .7) sown)
+    let l = c14 .loop in
+    let t = c13 .loop-test .taken in
+    let here = sym (c8 .is-present .ensures) ∙ c7 .if1 .taken in
+    let sown = sown-as (playerOn (a .t5) (a .t6) (a .cells .now) (a .presence .now) (a .ids .now) (a .i) (l .k)) (λ j h. sym (player-here (a .t5) (a .t6) (a .cells .now) (a .presence .now) (a .ids .now) (a .i) (l .k) (l .first) t (l .inv .1) (s .pre .6) here j h))
+    (c .before .before .put-eight-rows .ensures) in (
+      omega (arith, t),
+      next-first _ (l .k) _ _ (l .inv .1),
+      rest-step (playerOn (a .t5) (a .t6) (a .cells .now) (a .presence .now) (a .ids .now) (a .i) (l .k)) (playersFrom (a .t5) (a .t6) (a .cells .now) (a .presence .now) (a .ids .now) (a .i) (l .k + 1)) (l .inv .2) (λ j h. players-step
+          (a .t5) (a .t6) (a .cells .now) (a .presence .now) (a .ids .now) (a .i) (l .k) t j) (s .pre .7) sown,
+    )
 
 loop-again-2 : tie.Need-loop-again-2 Inv-loop μ-loop
 loop-again-2 c =
-    let s = c .before .before .before .before .before .before .before .before .before .before .before .before .before in
+    let c6 = c .before .before .before .before .before .before in
+    let c7 = c6 .before in
+    let c13 = c7 .before .before .before .before .before .before in
+    let s = c13 in
     let a = s .args in
-    let l = c .before .before .before .before .before .before .before .loop in
-    let t = c .before .before .before .before .before .before .loop-test .taken in
-    let gone = sym (c .before .is-present .ensures) ∙ c .if1 .left in
-    (omega arith, next-first _ (l .k) _ _ (l .inv .1), rest-skip (playersFrom (a .t5) (a .t6) (a .cells .now) (a .presence .now) (a .ids .now) (a .i) (l .k + 1)) (l .inv .2) (player-gone (a .t5) (a .t6) (a .cells .now) (a .presence .now) (a .ids .now) (a .i) (l .k) (l .first) t (l .inv .1) (s .pre .6) gone))
+    let l = c7 .loop in
+    let t = c6 .loop-test .taken in
+    let gone = sym (c .before .is-present .ensures) ∙ c .if1 .left in (
+      omega arith,
+      next-first _ (l .k) _ _ (l .inv .1),
+      rest-skip (playersFrom (a .t5) (a .t6) (a .cells .now) (a .presence .now) (a .ids .now) (a .i) (l .k + 1)) (l .inv .2) (player-gone (a .t5) (a .t6) (a .cells .now) (a .presence .now) (a .ids .now) (a .i) (l .k) (l .first) t
+          (l .inv .1) (s .pre .6) gone),
+    )
 
 same-length : tie.Need-same-length Inv-loop μ-loop
 same-length c = c .before .loop .inv .2 .same

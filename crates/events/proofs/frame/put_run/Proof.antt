@@ -25,7 +25,9 @@ loop-holds : tie.Need-loop-holds Inv-loop μ-loop
 loop-holds c = (c .before .before .before .before .before .before .before .before .before .before .before .before .before .before .before .before .pre .1, left-start)
 
 is-team-requires : tie.Need-is-team-requires Inv-loop μ-loop
-is-team-requires c κs = let s = c .before .before .before .before .before .before .before .before .before .before .before .before .before .before .before .before .before .before in (c .before .before .is-whole .ensures, s .pre .0 .seats, c .before .loop .inv .0, omega (arith, s .pre .2, s .pre .0 .frames))
+is-team-requires c κs =
+    let c18 = c .before .before .before .before .before .before .before .before .before .before .before .before .before .before .before .before .before .before in
+    let s = c18 in (c .before .before .is-whole .ensures, s .pre .0 .seats, c .before .loop .inv .0, omega (arith, s .pre .2, s .pre .0 .frames))
 
 put-eight-requires : tie.Need-put-eight-requires Inv-loop μ-loop
 put-eight-requires c κs =
@@ -35,7 +37,10 @@ put-eight-requires c κs =
     (s .pre .0, omega (arith, team .0, s .pre .2), team .1, eights-room _ (l .i) _ (team .0) (l .inv .1) (s .pre .3))
 
 add-i : tie.Need-add-i Inv-loop μ-loop
-add-i c = let s = c .before .before .before .before .before .before .before .before .before .before .before .before .before .before .before .before .before .before .before .before .before .before .before .before in omega (arith, c .before .before .before .before .before .before .loop-test .taken, s .pre .0 .frames, s .pre .2)
+add-i c =
+    let c6 = c .before .before .before .before .before .before in
+    let c24 = c6 .before .before .before .before .before .before .before .before .before .before .before .before .before .before .before .before .before .before in
+    let s = c24 in omega (arith, c6 .loop-test .taken, s .pre .0 .frames, s .pre .2)
 
 loop-again : tie.Need-loop-again Inv-loop μ-loop
 loop-again c =
@@ -51,7 +56,10 @@ put-frame-requires c κs =
     (s .pre .0, omega (arith, t, s .pre .2), range-room _ (l .i) _ (l .inv .1) t (s .pre .3))
 
 add-i-2 : tie.Need-add-i-2 Inv-loop μ-loop
-add-i-2 c = let s = c .before .before .before .before .before .before .before .before .before .before .before .before .before .before .before .before .before .before .before .before .before .before .before .before in omega (arith, c .before .before .before .before .before .before .loop-test .taken, s .pre .0 .frames, s .pre .2)
+add-i-2 c =
+    let c6 = c .before .before .before .before .before .before in
+    let c24 = c6 .before .before .before .before .before .before .before .before .before .before .before .before .before .before .before .before .before .before in
+    let s = c24 in omega (arith, c6 .loop-test .taken, s .pre .0 .frames, s .pre .2)
 
 loop-again-2 : tie.Need-loop-again-2 Inv-loop μ-loop
 loop-again-2 c =

@@ -51,7 +51,11 @@ put-middle-requires c κs =
 
 loop-again : tie.Need-loop-again Inv-loop μ-loop
 unfolding middleOn
-loop-again c = (omega (arith, c .before .before .before .before .before .before .before .before .loop-test .taken), strewn-step (c .before .before .before .before .before .before .before .before .before .loop .t) (c .before .before .before .before .before .before .before .before .before .loop .inv .1) (c .before .before .put-middle .ensures) (sym (front (c .before .before .before .before .before .before .before .before .before .before .before .before .before .before .before .before .before .before .before .before .before .before) (c .before .before .before .before .before .before .before .before .before .loop .t))))
+loop-again c =
+    let c8 = c .before .before .before .before .before .before .before .before in
+    let c9 = c8 .before in
+    let c22 = c9 .before .before .before .before .before .before .before .before .before .before .before .before .before in
+    (omega (arith, c8 .loop-test .taken), strewn-step (c9 .loop .t) (c9 .loop .inv .1) (c .before .before .put-middle .ensures) (sym (front (c22) (c9 .loop .t))))
 
 loop-again-2 : tie.Need-loop-again-2 Inv-loop μ-loop
 loop-again-2 c =
@@ -78,15 +82,22 @@ put-middles-spec =
     loop-holds
     (λ c. omega (arith, c .loop-test .taken))
     (λ c. omega (arith, c .before .loop-test .taken, c .before .before .before .before .before .before .before .before .before .before .before .before .before .before .before .pre .2))
-    (λ c. omega (arith, c .before .loop-test .taken, c .before .before .before .before .before .before .before .before .before .before .before .before .before .before .before .pre .3 .fits (c .before .before .loop .t) (c .before .loop-test .taken), front (c .before .before .before .before .before .before .before .before .before .before .before .before .before .before .before) (c .before .before .loop .t), c .before .before .before .before .before .before .before .before .before .before .before .before .before .before .before .good))
+    (λ c. let c15 = c .before .before .before .before .before .before .before .before .before .before .before .before .before .before .before in omega (
+      arith,
+      c .before .loop-test .taken,
+      c15 .pre .3 .fits (c .before .before .loop .t) (c .before .loop-test .taken),
+      front (c15)
+          (c .before .before .loop .t),
+      c15 .good,
+    ))
     (λ c. omega (arith, c .before .loop-test .taken))
     (λ c. omega (arith, c .before .loop-test .taken))
     (λ c. omega (arith, c .before .loop-test .taken))
     (λ c. omega (arith, c .before .before .loop-test .taken, c .before .before .before .before .before .before .before .before .before .before .before .before .before .before .before .before .pre .2))
-    (λ c. omega (arith, c .before .before .before .before .loop-test .taken, c .before .before .before .before .before .before .before .before .before .before .before .before .before .before .before .before .before .before .pre .1, c .before .before .before .before .before .before .before .before .before .before .before .before .before .before .before .before .before .before .good))
-    (λ c. omega (arith, c .before .before .before .before .loop-test .taken, c .before .before .before .before .before .before .before .before .before .before .before .before .before .before .before .before .before .before .pre .1, c .before .before .before .before .before .before .before .before .before .before .before .before .before .before .before .before .before .before .good))
+    (λ c. let c18 = c .before .before .before .before .before .before .before .before .before .before .before .before .before .before .before .before .before .before in omega (arith, c .before .before .before .before .loop-test .taken, c18 .pre .1, c18 .good))
+    (λ c. let c18 = c .before .before .before .before .before .before .before .before .before .before .before .before .before .before .before .before .before .before in omega (arith, c .before .before .before .before .loop-test .taken, c18 .pre .1, c18 .good))
     (λ c. omega (arith, c .before .before .before .before .before .loop-test .taken, c .before .before .before .before .before .before .before .before .before .before .before .before .before .before .before .before .before .before .before .pre .1))
-    (λ c. omega (arith, c .before .before .before .before .before .loop-test .taken, c .before .before .before .before .before .before .before .before .before .before .before .before .before .before .before .before .before .before .before .pre .1, c .before .before .before .before .before .before .before .before .before .before .before .before .before .before .before .before .before .before .before .good))
+    (λ c. let c5 = c .before .before .before .before .before in let c19 = c5 .before .before .before .before .before .before .before .before .before .before .before .before .before .before in omega (arith, c5 .loop-test .taken, c19 .pre .1, c19 .good))
     put-middle-requires
     (λ c. omega (arith, c .before .before .before .before .before .before .before .before .loop-test .taken))
     loop-again

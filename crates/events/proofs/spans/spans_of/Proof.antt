@@ -9,20 +9,32 @@ use Rattle.events.proofs.spans.spans_of.Statement.{statement}
 use Rattle.events.proofs.spans.spans_of.Tie as tie
 
 mul-t13 : tie.Need-mul-t13
-mul-t13 c = let s = c .before .before .before .before .before .before .before .before .before in omega (arith, team-small (c .before .before .before .before .before .before .before .seats-in .result) (s .args .shapes .pre .bytes) (c .before .before .before .before .before .before .before .seats-in .ensures .1) (s .pre .1 .pre))
+mul-t13 c =
+    let c7 = c .before .before .before .before .before .before .before in
+    let c9 = c7 .before .before in
+    let s = c9 in omega (arith, team-small (c7 .seats-in .result) (s .args .shapes .pre .bytes) (c7 .seats-in .ensures .1) (s .pre .1 .pre))
 
 add-t14 : tie.Need-add-t14
 add-t14 c =
-    let s = c .before .before .before .before .before .before .before .before .before in
-    omega (arith, team-small (c .before .before .before .before .before .before .before .seats-in .result) (s .args .shapes .pre .bytes) (c .before .before .before .before .before .before .before .seats-in .ensures .1) (s .pre .1 .pre), c .before .before .before .before .before .before .row-size .ensures .1)
+    let c6 = c .before .before .before .before .before .before in
+    let c7 = c6 .before in
+    let c9 = c7 .before .before in
+    let s = c9 in
+    omega (arith, team-small (c7 .seats-in .result) (s .args .shapes .pre .bytes) (c7 .seats-in .ensures .1) (s .pre .1 .pre), c6 .row-size .ensures .1)
 
 mul-t16 : tie.Need-mul-t16
-mul-t16 c = let s = c .before .before .before .before .before .before .before .before .before .before in omega (arith, team-small (c .before .before .before .before .before .before .before .before .seats-in .result) (s .args .shapes .post .bytes) (c .before .before .before .before .before .before .before .before .seats-in .ensures .1) (s .pre .1 .post))
+mul-t16 c =
+    let c8 = c .before .before .before .before .before .before .before .before in
+    let c10 = c8 .before .before in
+    let s = c10 in omega (arith, team-small (c8 .seats-in .result) (s .args .shapes .post .bytes) (c8 .seats-in .ensures .1) (s .pre .1 .post))
 
 add-t17 : tie.Need-add-t17
 add-t17 c =
-    let s = c .before .before .before .before .before .before .before .before .before .before in
-    omega (arith, team-small (c .before .before .before .before .before .before .before .before .seats-in .result) (s .args .shapes .post .bytes) (c .before .before .before .before .before .before .before .before .seats-in .ensures .1) (s .pre .1 .post), c .before .before .before .before .before .before .row-size2 .ensures .1)
+    let c6 = c .before .before .before .before .before .before in
+    let c8 = c6 .before .before in
+    let c10 = c8 .before .before in
+    let s = c10 in
+    omega (arith, team-small (c8 .seats-in .result) (s .args .shapes .post .bytes) (c8 .seats-in .ensures .1) (s .pre .1 .post), c6 .row-size2 .ensures .1)
 
 returns : tie.Need-returns
 returns c =

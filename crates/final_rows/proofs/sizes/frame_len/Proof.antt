@@ -47,7 +47,9 @@ add-result-4 c =
 
 add-result-5 : tie.Need-add-result-5
 add-result-5 c =
-    omega (arith, players (c .before), c .before .before .before .before .before .before .before .before .before .before .before .before .pre .2 .small, c .before .before .before .before .before .rows-len .ensures .1, c .before .before .before .before .rows-len2 .ensures .1, c .before .before .before .rows-len3 .ensures .1, c .before .before .rows-len4 .ensures .1)
+    let c5 = c .before .before .before .before .before in
+    let c12 = c5 .before .before .before .before .before .before .before in
+    omega (arith, players (c .before), c12 .pre .2 .small, c5 .rows-len .ensures .1, c .before .before .before .before .rows-len2 .ensures .1, c .before .before .before .rows-len3 .ensures .1, c .before .before .rows-len4 .ensures .1)
 
 returns : tie.Need-returns
 returns c =

@@ -45,7 +45,12 @@ mul-result : tie.Need-mul-result
 mul-result c = let s = c .before .before .before in omega (arith, rows-small _ (s .args .size) (rows-few _ (s .args .family) _ (s .args .i) (s .pre .0) (ranges (c .before .before)) (s .pre .4)) (s .pre .3))
 
 returns-2 : tie.Need-returns-2
-returns-2 c = let s = c .before .before .before in (ap (λ (k : ℕ). (getD (s .args .offsets .now) (s .args .i + 1) 0 - getD (s .args .offsets .now) (s .args .i) 0) * k) (s .pre .2), rows-small _ (s .args .size) (rows-few _ (s .args .family) _ (s .args .i) (s .pre .0) (ranges (c .before .before)) (s .pre .4)) (s .pre .3))
+returns-2 c =
+    let s = c .before .before .before in (
+      ap (λ (k : ℕ). (getD (s .args .offsets .now) (s .args .i + 1) 0 - getD (s .args .offsets .now) (s .args .i) 0) * k) (s .pre .2),
+      rows-small _ (s .args .size) (rows-few _ (s .args .family) _ (s .args .i) (s .pre .0) (ranges (c .before .before))
+          (s .pre .4)) (s .pre .3),
+    )
 
 pub rows-len-spec : {M : Type 1} → statement M
 rows-len-spec =

@@ -27,7 +27,14 @@ scratch-len-requires c κs =
 
 loop-holds : tie.Need-loop-holds Inv-loop μ-loop
 loop-holds c =
-    let s = c .before .before .before .before .before .before .before in (c .scratch-len .ensures, omega arith, sym (window-first (λ i. place (getD (s .args .ids .now) i 0)) (isLost (s .args .ids .now)) (lengthOf (s .args .f) (offsets (s .args .item-offsets .now) (s .args .fod-offsets .now) (s .args .whispy-offsets .now) (s .args .stadium-offsets .now)) (s .args .presence .now)) (length (s .args .ids .now))))
+    let c7 = c .before .before .before .before .before .before .before in
+    let s = c7 in (
+      c .scratch-len .ensures,
+      omega arith,
+      sym
+          (window-first (λ i. place (getD (s .args .ids .now) i 0)) (isLost (s .args .ids .now)) (lengthOf (s .args .f) (offsets (s .args .item-offsets .now) (s .args .fod-offsets .now) (s .args .whispy-offsets .now) (s .args .stadium-offsets .now)) (s .args .presence .now)) (length
+          (s .args .ids .now))),
+    )
 
 window-len-requires : tie.Need-window-len-requires Inv-loop μ-loop
 window-len-requires c κs =
@@ -43,11 +50,19 @@ next : (c : tie.After-window-len Inv-loop μ-loop)
 next c =
     let l = c .before .before in
     let s = l .before .before .before .before .before .before .before .before in
-    ap₂ (λ (x y : ℕ). x + y) (l .loop .inv .2) (c .window-len .ensures) ∙ window-next (λ i. place (getD (s .args .ids .now) i 0)) (isLost (s .args .ids .now)) (lengthOf (s .args .f) (offsets (s .args .item-offsets .now) (s .args .fod-offsets .now) (s .args .whispy-offsets .now) (s .args .stadium-offsets .now)) (s .args .presence .now)) (length (s .args .ids .now)) (l .loop .base)
+    ap₂ (λ (x y : ℕ). x + y) (l .loop .inv .2) (c .window-len .ensures) ∙ window-next (λ i. place (getD (s .args .ids .now) i 0)) (isLost (s .args .ids .now))
+    (lengthOf (s .args .f) (offsets (s .args .item-offsets .now) (s .args .fod-offsets .now) (s .args .whispy-offsets .now) (s .args .stadium-offsets .now)) (s .args .presence .now)) (length (s .args .ids .now)) (l .loop .base)
 
 add-n : tie.Need-add-n Inv-loop μ-loop
 add-n c =
-    let s = c .before .before .before .before .before .before .before .before .before .before in omega (arith, next c, upTo-most (λ i. place (getD (s .args .ids .now) i 0)) (isLost (s .args .ids .now)) (lengthOf (s .args .f) (offsets (s .args .item-offsets .now) (s .args .fod-offsets .now) (s .args .whispy-offsets .now) (s .args .stadium-offsets .now)) (s .args .presence .now)) (length (s .args .ids .now)) (c .before .before .loop .base + 32768), s .pre .1 .total)
+    let c10 = c .before .before .before .before .before .before .before .before .before .before in
+    let s = c10 in omega (
+      arith,
+      next c,
+      upTo-most (λ i. place (getD (s .args .ids .now) i 0)) (isLost (s .args .ids .now)) (lengthOf (s .args .f) (offsets (s .args .item-offsets .now) (s .args .fod-offsets .now) (s .args .whispy-offsets .now) (s .args .stadium-offsets .now))
+          (s .args .presence .now)) (length (s .args .ids .now)) (c .before .before .loop .base + 32768),
+      s .pre .1 .total,
+    )
 
 add-base : tie.Need-add-base Inv-loop μ-loop
 add-base c =
@@ -63,7 +78,15 @@ loop-again c =
 
 returns : tie.Need-returns Inv-loop μ-loop
 returns c =
-    let l = c .before in let s = c .before .before .before .before .before .before .before .before .before in l .loop .inv .2 ∙ window-last (λ i. place (getD (s .args .ids .now) i 0)) (isLost (s .args .ids .now)) (lengthOf (s .args .f) (offsets (s .args .item-offsets .now) (s .args .fod-offsets .now) (s .args .whispy-offsets .now) (s .args .stadium-offsets .now)) (s .args .presence .now)) (length (s .args .ids .now)) (l .loop .base) (λ i h. omega (arith, below-needed (s .args .ids .now) i h, l .loop .inv .0, c .loop-test .left))
+    let c9 = c .before .before .before .before .before .before .before .before .before in
+    let l = c .before in let s = c9 in l .loop .inv .2 ∙ window-last (λ i. place (getD (s .args .ids .now) i 0)) (isLost (s .args .ids .now))
+    (lengthOf (s .args .f) (offsets (s .args .item-offsets .now) (s .args .fod-offsets .now) (s .args .whispy-offsets .now) (s .args .stadium-offsets .now)) (s .args .presence .now)) (length (s .args .ids .now)) (l .loop .base) (λ i h. omega (
+      arith,
+      below-needed
+          (s .args .ids .now) i h,
+      l .loop .inv .0,
+      c .loop-test .left,
+    ))
 
 pub lost-len-spec : {M : Type 1} → statement M
 lost-len-spec =

@@ -25,7 +25,8 @@ scratch-len-requires c κs =
 
 loop-holds : tie.Need-loop-holds Inv-loop μ-loop
 loop-holds c =
-    (omega (arith, c .scratch-len .ensures, c .before .before .before .before .before .before .before .pre .1), c .scratch-len .ensures, omega arith, swept-none (c .before .before .before .clear .ensures .0 ∙ c .before .before .before .before .before .before .before .pre .0) (c .before .before .before .clear .ensures .1))
+    let c7 = c .before .before .before .before .before .before .before in
+    (omega (arith, c .scratch-len .ensures, c7 .pre .1), c .scratch-len .ensures, omega arith, swept-none (c .before .before .before .clear .ensures .0 ∙ c7 .pre .0) (c .before .before .before .clear .ensures .1))
 
 window-mask-requires : tie.Need-window-mask-requires Inv-loop μ-loop
 window-mask-requires c κs =
@@ -41,7 +42,8 @@ loop-less c =
 
 loop-again : tie.Need-loop-again Inv-loop μ-loop
 loop-again c =
-    (c .before .before .before .before .before .loop .inv .0, c .before .before .before .before .before .loop .inv .1, omega (arith, c .before .before .before .before .loop-test .taken, c .before .before .before .before .before .loop .inv), swept-more (c .before .before .before .before .before .loop .inv .3) (c .before .before .window-mask .ensures))
+    let c5 = c .before .before .before .before .before in
+    (c5 .loop .inv .0, c5 .loop .inv .1, omega (arith, c .before .before .before .before .loop-test .taken, c5 .loop .inv), swept-more (c5 .loop .inv .3) (c .before .before .window-mask .ensures))
 
 same-length : tie.Need-same-length Inv-loop μ-loop
 same-length c =

@@ -65,13 +65,18 @@ added : (c : tie.After-frame-len Inv-loop μ-loop)
     l .loop .n + lengthOf (a .f) o (a .presence .now) (l .loop .k - 1)
     ≡ summed (λ i. cond (lostHere (a .ids .now) (a .base) i) (lengthOf (a .f) o (a .presence .now) i) 0) (l .loop .k - 1) (length (a .ids .now) - (l .loop .k - 1))
 added c =
-    let l = c .before .before .before .before .before .before .before .before in
+    let c5 = c .before .before .before .before .before in
+    let c6 = c5 .before in
+    let c7 = c6 .before in
+    let c8 = c7 .before in
+    let l = c8 in
     let s = l .before .before .before .before .before .before .before in
-    let test = c .before .before .before .before .before .before .before .loop-test .taken in
-    let ok = placed (s .args .ids .now) (c .before .before .before .before .before .before .shared-slice-known7 .given) (s .pre .1 .range) in
-    let here = c .before .before .before .before .before .place-of .ensures .0 in
+    let test = c7 .loop-test .taken in
+    let ok = placed (s .args .ids .now) (c6 .shared-slice-known7 .given) (s .pre .1 .range) in
+    let here = c5 .place-of .ensures .0 in
     let lost = turn-read (l .loop .inv .1) test (l .loop .inv .0) here ok (c .before .before .before .seen .ensures .0) in
-    back-in (lostHere (s .args .ids .now) (s .args .base)) (lengthOf (s .args .f) (offsets (s .args .item-offsets .now) (s .args .fod-offsets .now) (s .args .whispy-offsets .now) (s .args .stadium-offsets .now)) (s .args .presence .now)) (length (s .args .ids .now)) (l .loop .k) (l .loop .n) (l .loop .inv .0) (l .loop .inv .2) test (sym lost ∙ c .before .if1 .taken)
+    back-in (lostHere (s .args .ids .now) (s .args .base)) (lengthOf (s .args .f) (offsets (s .args .item-offsets .now) (s .args .fod-offsets .now) (s .args .whispy-offsets .now) (s .args .stadium-offsets .now)) (s .args .presence .now)) (length (s .args .ids .now)) (l .loop .k)
+    (l .loop .n) (l .loop .inv .0) (l .loop .inv .2) test (sym lost ∙ c .before .if1 .taken)
 
 most : (c : tie.After-frame-len Inv-loop μ-loop)
     → let l = c .before .before .before .before .before .before .before .before in
@@ -79,9 +84,11 @@ most : (c : tie.After-frame-len Inv-loop μ-loop)
     let o = offsets (a .item-offsets .now) (a .fod-offsets .now) (a .whispy-offsets .now) (a .stadium-offsets .now) in
     l .loop .n + lengthOf (a .f) o (a .presence .now) (l .loop .k - 1) ≤ summed (lengthOf (a .f) o (a .presence .now)) 0 (length (a .ids .now))
 most c =
-    let l = c .before .before .before .before .before .before .before .before in
+    let c8 = c .before .before .before .before .before .before .before .before in
+    let l = c8 in
     let s = l .before .before .before .before .before .before .before in
-    back-most (lostHere (s .args .ids .now) (s .args .base)) (lengthOf (s .args .f) (offsets (s .args .item-offsets .now) (s .args .fod-offsets .now) (s .args .whispy-offsets .now) (s .args .stadium-offsets .now)) (s .args .presence .now)) (length (s .args .ids .now)) (l .loop .k - 1) _ (omega (arith, l .loop .inv .0)) (added c)
+    back-most (lostHere (s .args .ids .now) (s .args .base)) (lengthOf (s .args .f) (offsets (s .args .item-offsets .now) (s .args .fod-offsets .now) (s .args .whispy-offsets .now) (s .args .stadium-offsets .now)) (s .args .presence .now)) (length (s .args .ids .now)) (l .loop .k - 1) _
+    (omega (arith, l .loop .inv .0)) (added c)
 
 add-n : tie.Need-add-n Inv-loop μ-loop
 add-n c =
@@ -104,13 +111,18 @@ loop-less-2 c =
 
 loop-again-2 : tie.Need-loop-again-2 Inv-loop μ-loop
 loop-again-2 c =
-    let l = c .before .before .before .before .before .before .before in let s = c .before .before .before .before .before .before .before .before .before .before .before .before .before .before in
-    let ok = placed (s .args .ids .now) (c .before .before .before .before .before .shared-slice-known7 .given) (s .pre .1 .range) in
+    let c5 = c .before .before .before .before .before in
+    let c6 = c5 .before in
+    let c7 = c6 .before in
+    let c14 = c7 .before .before .before .before .before .before .before in
+    let l = c7 in let s = c14 in
+    let ok = placed (s .args .ids .now) (c5 .shared-slice-known7 .given) (s .pre .1 .range) in
     let here = c .before .before .before .before .place-of .ensures .0 in
-    let lost = turn-read (l .loop .inv .1) (c .before .before .before .before .before .before .loop-test .taken) (l .loop .inv .0) here ok (c .before .before .seen .ensures .0) in (
+    let lost = turn-read (l .loop .inv .1) (c6 .loop-test .taken) (l .loop .inv .0) here ok (c .before .before .seen .ensures .0) in (
       omega arith,
-      turn-seen (l .loop .inv .1) (c .before .before .before .before .before .before .loop-test .taken) (l .loop .inv .0) here (c .before .before .seen .ensures .1),
-      back-out (lostHere (s .args .ids .now) (s .args .base)) (lengthOf (s .args .f) (offsets (s .args .item-offsets .now) (s .args .fod-offsets .now) (s .args .whispy-offsets .now) (s .args .stadium-offsets .now)) (s .args .presence .now)) (length (s .args .ids .now)) (l .loop .k) (l .loop .n) (l .loop .inv .0) (l .loop .inv .2) (c .before .before .before .before .before .before .loop-test .taken) (sym lost ∙ c .if1 .left),
+      turn-seen (l .loop .inv .1) (c6 .loop-test .taken) (l .loop .inv .0) here (c .before .before .seen .ensures .1),
+      back-out (lostHere (s .args .ids .now) (s .args .base)) (lengthOf (s .args .f) (offsets (s .args .item-offsets .now) (s .args .fod-offsets .now) (s .args .whispy-offsets .now) (s .args .stadium-offsets .now)) (s .args .presence .now)) (length (s .args .ids .now)) (l .loop .k)
+          (l .loop .n) (l .loop .inv .0) (l .loop .inv .2) (c6 .loop-test .taken) (sym lost ∙ c .if1 .left),
     )
 
 returns : tie.Need-returns Inv-loop μ-loop

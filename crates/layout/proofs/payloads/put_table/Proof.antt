@@ -24,8 +24,12 @@ put-entries-requires c κs =
 
 returns : tie.Need-returns
 returns c =
-    wrote-as (sym (table-parts _ _ _ (c .before .before .before .before .before .before .before .before .before .before .before .before .before .code .ensures) (c .before .before .before .before .before .before .before .before .before .before .before .before .before .before .before .before .before .payload-sizes .ensures)))
-    (wrote-then (c .before .before .before .before .before .before .before .before .before .before .before .before .put-u8 .ensures) (wrote-then (c .before .before .before .before .before .before .before .before .put-u82 .ensures) (c .before .before .put-entries .ensures)))
+    let c8 = c .before .before .before .before .before .before .before .before in
+    let c12 = c8 .before .before .before .before in
+    let c13 = c12 .before in
+    let c17 = c13 .before .before .before .before in
+    wrote-as (sym (table-parts _ _ _ (c13 .code .ensures) (c17 .payload-sizes .ensures)))
+    (wrote-then (c12 .put-u8 .ensures) (wrote-then (c8 .put-u82 .ensures) (c .before .before .put-entries .ensures)))
 
 pub put-table-spec : {M : Type 1} → statement M
 put-table-spec =

@@ -63,52 +63,94 @@ pub +fill-map-spec : {M : Type 1} → statement M
     record { fits = omega (arith, h .few, h .far, h .within, c .before .before .before .before .before .before .pre .1 .2) })
     (λ c κs. tt)
     (λ c.
-    let h = row-of (λ j. c .before .before .before .before .before .before .before .shared-slice-known .given j .fits) (c .before .before .before .before .before .loop .inv) (c .before .before .before .before .byte-at .ensures .0) (c .before .before .before .if1 .taken) (c .before .before .text-stop .ensures .0) in
+    let h = row-of (λ j. c .before .before .before .before .before .before .before .shared-slice-known .given j .fits) (c .before .before .before .before .before .loop .inv) (c .before .before .before .before .byte-at .ensures .0) (c .before .before .before .if1 .taken)
+    (c .before .before .text-stop .ensures .0) in
     let y = deep-of _ _ _ (c .before .byte-at2 .ensures .0) (c .if2 .taken) (h .value-ok) in
     record { fits = omega (arith, y .within, c .before .before .before .before .before .before .before .before .pre .1 .2) })
     (λ c.
-    let h = row-of (λ j. c .before .before .before .before .before .before .before .shared-slice-known .given j .fits) (c .before .before .before .before .before .loop .inv) (c .before .before .before .before .byte-at .ensures .0) (c .before .before .before .if1 .taken) (c .before .before .text-stop .ensures .0) in
+    let h = row-of (λ j. c .before .before .before .before .before .before .before .shared-slice-known .given j .fits) (c .before .before .before .before .before .loop .inv) (c .before .before .before .before .byte-at .ensures .0) (c .before .before .before .if1 .taken)
+    (c .before .before .text-stop .ensures .0) in
     let y = deep-of _ _ _ (c .before .byte-at2 .ensures .0) (c .if2 .taken) (h .value-ok) in
     y .deep)
     (λ c.
-    let h = row-of (λ j. c .before .before .before .before .before .before .before .before .shared-slice-known .given j .fits) (c .before .before .before .before .before .before .loop .inv) (c .before .before .before .before .before .byte-at .ensures .0) (c .before .before .before .before .if1 .taken) (c .before .before .before .text-stop .ensures .0) in
+    let h = row-of (λ j. c .before .before .before .before .before .before .before .before .shared-slice-known .given j .fits) (c .before .before .before .before .before .before .loop .inv) (c .before .before .before .before .before .byte-at .ensures .0)
+    (c .before .before .before .before .if1 .taken) (c .before .before .before .text-stop .ensures .0) in
     record { fits = omega (arith, row-room h (c .before .before .before .before .before .before .before .before .before .pre .1 .3), c .before .before .before .before .before .before .before .before .before .good) })
     (λ c κs.
-    let h = row-of (λ j. c .before .before .before .before .before .before .before .before .shared-slice-known .given j .fits) (c .before .before .before .before .before .before .loop .inv) (c .before .before .before .before .before .byte-at .ensures .0) (c .before .before .before .before .if1 .taken) (c .before .before .before .text-stop .ensures .0) in
-    let y = deep-of _ _ _ (c .before .before .byte-at2 .ensures .0) (c .before .if2 .taken) (h .value-ok) in
-    (omega (arith, y .deep, c .before .before .before .before .before .before .before .before .before .pre .0), (y .ok, y .within, c .before .before .before .before .before .before .before .before .before .pre .1 .2, deep-room h y (c .before .before .before .before .before .before .before .before .before .pre .1 .3))))
+    let h = row-of (λ j. c .before .before .before .before .before .before .before .before .shared-slice-known .given j .fits) (c .before .before .before .before .before .before .loop .inv) (c .before .before .before .before .before .byte-at .ensures .0)
+    (c .before .before .before .before .if1 .taken) (c .before .before .before .text-stop .ensures .0) in
+    let y = deep-of _ _ _ (c .before .before .byte-at2 .ensures .0) (c .before .if2 .taken) (h .value-ok) in (
+      omega (arith, y .deep, c .before .before .before .before .before .before .before .before .before .pre .0),
+      (
+        y .ok,
+        y .within,
+        c .before .before .before .before .before .before .before .before .before .pre .1 .2,
+        deep-room h y
+            (c .before .before .before .before .before .before .before .before .before .pre .1 .3),
+      ),
+    ))
     (λ c.
-    let h = row-of (λ j. c .before .before .before .before .before .before .before .before .before .before .before .before .shared-slice-known .given j .fits) (c .before .before .before .before .before .before .before .before .before .before .loop .inv) (c .before .before .before .before .before .before .before .before .before .byte-at .ensures .0) (c .before .before .before .before .before .before .before .before .if1 .taken) (c .before .before .before .before .before .before .before .text-stop .ensures .0) in
+    let h = row-of (λ j. c .before .before .before .before .before .before .before .before .before .before .before .before .shared-slice-known .given j .fits) (c .before .before .before .before .before .before .before .before .before .before .loop .inv)
+    (c .before .before .before .before .before .before .before .before .before .byte-at .ensures .0) (c .before .before .before .before .before .before .before .before .if1 .taken) (c .before .before .before .before .before .before .before .text-stop .ensures .0) in
     omega (arith, h .far))
     (λ c κs.
-    let h = row-of (λ j. c .before .before .before .before .before .before .before .before .before .before .before .before .shared-slice-known .given j .fits) (c .before .before .before .before .before .before .before .before .before .before .loop .inv) (c .before .before .before .before .before .before .before .before .before .byte-at .ensures .0) (c .before .before .before .before .before .before .before .before .if1 .taken) (c .before .before .before .before .before .before .before .text-stop .ensures .0) in
-    (omega (arith, row-room h (c .before .before .before .before .before .before .before .before .before .before .before .before .before .pre .1 .3), wrote-length (c .before .before .before .fill-map .ensures .3)), omega (arith, h .far, h .within, c .before .before .before .before .before .before .before .before .before .before .before .before .before .pre .1 .2), omega (arith, h .within, c .before .before .before .before .before .before .before .before .before .before .before .before .before .pre .1 .2), omega (arith, c .before .before .before .fill-map .ensures .2, c .before .before .before .before .before .before .before .before .before .before .before .before .before .pre .1 .2), omega arith))
+    let h = row-of (λ j. c .before .before .before .before .before .before .before .before .before .before .before .before .shared-slice-known .given j .fits) (c .before .before .before .before .before .before .before .before .before .before .loop .inv)
+    (c .before .before .before .before .before .before .before .before .before .byte-at .ensures .0) (c .before .before .before .before .before .before .before .before .if1 .taken) (c .before .before .before .before .before .before .before .text-stop .ensures .0) in (
+      omega (arith, row-room h (c .before .before .before .before .before .before .before .before .before .before .before .before .before .pre .1 .3), wrote-length (c .before .before .before .fill-map .ensures .3)),
+      omega
+          (arith, h .far, h .within, c .before .before .before .before .before .before .before .before .before .before .before .before .before .pre .1 .2),
+      omega
+          (arith, h .within, c .before .before .before .before .before .before .before .before .before .before .before .before .before .pre .1 .2),
+      omega
+          (arith, c .before .before .before .fill-map .ensures .2, c .before .before .before .before .before .before .before .before .before .before .before .before .before .pre .1 .2),
+      omega arith,
+    ))
     (λ c.
-    let h = row-of (λ j. c .before .before .before .before .before .before .before .before .before .before .before .before .before .before .before .before .shared-slice-known .given j .fits) (c .before .before .before .before .before .before .before .before .before .before .before .before .before .before .loop .inv) (c .before .before .before .before .before .before .before .before .before .before .before .before .before .byte-at .ensures .0) (c .before .before .before .before .before .before .before .before .before .before .before .before .if1 .taken) (c .before .before .before .before .before .before .before .before .before .before .before .text-stop .ensures .0) in
+    let h = row-of (λ j. c .before .before .before .before .before .before .before .before .before .before .before .before .before .before .before .before .shared-slice-known .given j .fits)
+    (c .before .before .before .before .before .before .before .before .before .before .before .before .before .before .loop .inv) (c .before .before .before .before .before .before .before .before .before .before .before .before .before .byte-at .ensures .0)
+    (c .before .before .before .before .before .before .before .before .before .before .before .before .if1 .taken) (c .before .before .before .before .before .before .before .before .before .before .before .text-stop .ensures .0) in
     let y = deep-of _ _ _ (c .before .before .before .before .before .before .before .before .before .before .byte-at2 .ensures .0) (c .before .before .before .before .before .before .before .before .before .if2 .taken) (h .value-ok) in
     record { fits = omega (arith, y .stop-in, c .before .before .before .before .before .before .before .fill-map .ensures .0, c .before .before .before .before .before .before .before .before .before .before .before .before .before .before .before .before .before .pre .1 .2) })
     (λ c.
-    let h = row-of (λ j. c .before .before .before .before .before .before .before .before .before .before .before .before .before .before .before .before .shared-slice-known .given j .fits) (c .before .before .before .before .before .before .before .before .before .before .before .before .before .before .loop .inv) (c .before .before .before .before .before .before .before .before .before .before .before .before .before .byte-at .ensures .0) (c .before .before .before .before .before .before .before .before .before .before .before .before .if1 .taken) (c .before .before .before .before .before .before .before .before .before .before .before .text-stop .ensures .0) in
+    let h = row-of (λ j. c .before .before .before .before .before .before .before .before .before .before .before .before .before .before .before .before .shared-slice-known .given j .fits)
+    (c .before .before .before .before .before .before .before .before .before .before .before .before .before .before .loop .inv) (c .before .before .before .before .before .before .before .before .before .before .before .before .before .byte-at .ensures .0)
+    (c .before .before .before .before .before .before .before .before .before .before .before .before .if1 .taken) (c .before .before .before .before .before .before .before .before .before .before .before .text-stop .ensures .0) in
     let y = deep-of _ _ _ (c .before .before .before .before .before .before .before .before .before .before .byte-at2 .ensures .0) (c .before .before .before .before .before .before .before .before .before .if2 .taken) (h .value-ok) in
     omega (arith, deep-far h y (c .before .before .before .before .before .before .before .fill-map .ensures .0)))
     (λ c.
-    let h = row-of (λ j. c .before .before .before .before .before .before .before .before .before .before .before .before .before .before .before .before .shared-slice-known .given j .fits) (c .before .before .before .before .before .before .before .before .before .before .before .before .before .before .loop .inv) (c .before .before .before .before .before .before .before .before .before .before .before .before .before .byte-at .ensures .0) (c .before .before .before .before .before .before .before .before .before .before .before .before .if1 .taken) (c .before .before .before .before .before .before .before .before .before .before .before .text-stop .ensures .0) in
+    let h = row-of (λ j. c .before .before .before .before .before .before .before .before .before .before .before .before .before .before .before .before .shared-slice-known .given j .fits)
+    (c .before .before .before .before .before .before .before .before .before .before .before .before .before .before .loop .inv) (c .before .before .before .before .before .before .before .before .before .before .before .before .before .byte-at .ensures .0)
+    (c .before .before .before .before .before .before .before .before .before .before .before .before .if1 .taken) (c .before .before .before .before .before .before .before .before .before .before .before .text-stop .ensures .0) in
     let y = deep-of _ _ _ (c .before .before .before .before .before .before .before .before .before .before .byte-at2 .ensures .0) (c .before .before .before .before .before .before .before .before .before .if2 .taken) (h .value-ok) in
-    deep-again h y (c .before .before .before .before .before .before .before .fill-map .ensures .0) (c .before .before .before .before .before .before .before .fill-map .ensures .1) (c .before .before .before .before .before .before .before .fill-map .ensures .3) (c .before .before .before .put-row .ensures))
+    deep-again h y (c .before .before .before .before .before .before .before .fill-map .ensures .0) (c .before .before .before .before .before .before .before .fill-map .ensures .1) (c .before .before .before .before .before .before .before .fill-map .ensures .3)
+    (c .before .before .before .put-row .ensures))
     (λ c.
-    let h = row-of (λ j. c .before .before .before .before .before .before .before .shared-slice-known .given j .fits) (c .before .before .before .before .before .loop .inv) (c .before .before .before .before .byte-at .ensures .0) (c .before .before .before .if1 .taken) (c .before .before .text-stop .ensures .0) in
+    let h = row-of (λ j. c .before .before .before .before .before .before .before .shared-slice-known .given j .fits) (c .before .before .before .before .before .loop .inv) (c .before .before .before .before .byte-at .ensures .0) (c .before .before .before .if1 .taken)
+    (c .before .before .text-stop .ensures .0) in
     omega (arith, h .far))
     (λ c κs.
-    let h = row-of (λ j. c .before .before .before .before .before .before .before .before .shared-slice-known .given j .fits) (c .before .before .before .before .before .before .loop .inv) (c .before .before .before .before .before .byte-at .ensures .0) (c .before .before .before .before .if1 .taken) (c .before .before .before .text-stop .ensures .0) in
-    (plain-ok h (c .before .before .byte-at2 .ensures .0) (c .before .if2 .left), c .before .before .before .before .before .before .before .before .before .pre .1 .2, omega (arith, h .far, h .within, c .before .before .before .before .before .before .before .before .before .pre .1 .2), omega (arith, h .within, c .before .before .before .before .before .before .before .before .before .pre .1 .2), row-room h (c .before .before .before .before .before .before .before .before .before .pre .1 .3) .0))
+    let h = row-of (λ j. c .before .before .before .before .before .before .before .before .shared-slice-known .given j .fits) (c .before .before .before .before .before .before .loop .inv) (c .before .before .before .before .before .byte-at .ensures .0)
+    (c .before .before .before .before .if1 .taken) (c .before .before .before .text-stop .ensures .0) in (
+      plain-ok h (c .before .before .byte-at2 .ensures .0) (c .before .if2 .left),
+      c .before .before .before .before .before .before .before .before .before .pre .1 .2,
+      omega
+          (arith, h .far, h .within, c .before .before .before .before .before .before .before .before .before .pre .1 .2),
+      omega (arith, h .within, c .before .before .before .before .before .before .before .before .before .pre .1 .2),
+      row-room h
+          (c .before .before .before .before .before .before .before .before .before .pre .1 .3) .0,
+    ))
     (λ c.
-    let h = row-of (λ j. c .before .before .before .before .before .before .before .before .before .before .before .shared-slice-known .given j .fits) (c .before .before .before .before .before .before .before .before .before .loop .inv) (c .before .before .before .before .before .before .before .before .byte-at .ensures .0) (c .before .before .before .before .before .before .before .if1 .taken) (c .before .before .before .before .before .before .text-stop .ensures .0) in
+    let h = row-of (λ j. c .before .before .before .before .before .before .before .before .before .before .before .shared-slice-known .given j .fits) (c .before .before .before .before .before .before .before .before .before .loop .inv)
+    (c .before .before .before .before .before .before .before .before .byte-at .ensures .0) (c .before .before .before .before .before .before .before .if1 .taken) (c .before .before .before .before .before .before .text-stop .ensures .0) in
     record { fits = omega (arith, row-room h (c .before .before .before .before .before .before .before .before .before .before .before .before .pre .1 .3), c .before .before .before .before .before .before .before .before .before .before .before .before .good) })
     (λ c.
-    let h = row-of (λ j. c .before .before .before .before .before .before .before .before .before .before .before .shared-slice-known .given j .fits) (c .before .before .before .before .before .before .before .before .before .loop .inv) (c .before .before .before .before .before .before .before .before .byte-at .ensures .0) (c .before .before .before .before .before .before .before .if1 .taken) (c .before .before .before .before .before .before .text-stop .ensures .0) in
+    let h = row-of (λ j. c .before .before .before .before .before .before .before .before .before .before .before .shared-slice-known .given j .fits) (c .before .before .before .before .before .before .before .before .before .loop .inv)
+    (c .before .before .before .before .before .before .before .before .byte-at .ensures .0) (c .before .before .before .before .before .before .before .if1 .taken) (c .before .before .before .before .before .before .text-stop .ensures .0) in
     omega (arith, plain-far h (c .before .before .before .before .before .byte-at2 .ensures .0) (c .before .before .before .before .if2 .left) (c .before .before .fill-plain .ensures .0)))
     (λ c.
-    let h = row-of (λ j. c .before .before .before .before .before .before .before .before .before .before .before .shared-slice-known .given j .fits) (c .before .before .before .before .before .before .before .before .before .loop .inv) (c .before .before .before .before .before .before .before .before .byte-at .ensures .0) (c .before .before .before .before .before .before .before .if1 .taken) (c .before .before .before .before .before .before .text-stop .ensures .0) in
-    plain-again h (c .before .before .before .before .before .byte-at2 .ensures .0) (c .before .before .before .before .if2 .left) (λ j. c .before .before .before .before .before .before .before .before .before .before .before .shared-slice-known .given j .fits) (c .before .before .fill-plain .ensures .0) (c .before .before .fill-plain .ensures .1))
+    let h = row-of (λ j. c .before .before .before .before .before .before .before .before .before .before .before .shared-slice-known .given j .fits) (c .before .before .before .before .before .before .before .before .before .loop .inv)
+    (c .before .before .before .before .before .before .before .before .byte-at .ensures .0) (c .before .before .before .before .before .before .before .if1 .taken) (c .before .before .before .before .before .before .text-stop .ensures .0) in
+    plain-again h (c .before .before .before .before .before .byte-at2 .ensures .0) (c .before .before .before .before .if2 .left) (λ j. c .before .before .before .before .before .before .before .before .before .before .before .shared-slice-known .given j .fits)
+    (c .before .before .fill-plain .ensures .0) (c .before .before .fill-plain .ensures .1))
     (λ c. c .before .before .loop .inv .left .same)
     (λ c. filling-done (c .before .before .loop .inv) (c .before .byte-at .ensures .0) (c .if1 .left))

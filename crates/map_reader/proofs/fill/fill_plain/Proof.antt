@@ -16,7 +16,10 @@ put-row-requires c κs =
 
 returns : tie.Need-returns
 returns c =
-    let t = plain-text _ _ _ _ (c .before .before .before .before .before .before .byte-at .ensures .0) (c .before .before .before .before .before .if1 .taken) (c .before .before .before .before .before .before .before .before .before .pre .0) (c .before .before .before .before .byte-at2 .ensures .0) in
+    let c5 = c .before .before .before .before .before in
+    let c6 = c5 .before in
+    let c9 = c6 .before .before .before in
+    let t = plain-text _ _ _ _ (c6 .byte-at .ensures .0) (c5 .if1 .taken) (c9 .pre .0) (c .before .before .before .before .byte-at2 .ensures .0) in
     (t .stop-is, wrote-as (sym (t .row)) (c .before .before .put-row .ensures))
 
 returns-2 : tie.Need-returns-2
@@ -34,14 +37,21 @@ fill-plain-spec =
     (λ c. search needs)
     (λ c. record { fits = omega (arith, c .before .before .before .before .before .before .pre .1, plain-text _ _ 0 0 (c .before .before .before .byte-at .ensures .0) (c .before .before .if1 .taken) (c .before .before .before .before .before .before .pre .0) refl .fits) })
     put-row-requires
-    (λ c. record { fits = omega (arith, c .before .before .before .before .before .before .before .before .before .pre .1, plain-text _ _ 0 0 (c .before .before .before .before .before .before .byte-at .ensures .0) (c .before .before .before .before .before .if1 .taken) (c .before .before .before .before .before .before .before .before .before .pre .0) refl .fits) })
-    (λ c. record { fits = omega (arith, c .before .before .before .before .before .before .before .before .before .pre .1, plain-text _ _ 0 0 (c .before .before .before .before .before .before .byte-at .ensures .0) (c .before .before .before .before .before .if1 .taken) (c .before .before .before .before .before .before .before .before .before .pre .0) (c .before .before .before .before .byte-at2 .ensures .0) .fits) })
+    (λ c. let c5 = c .before .before .before .before .before in let c6 = c5 .before in let c9 = c6 .before .before .before in record { fits = omega (arith, c9 .pre .1, plain-text _ _ 0 0 (c6 .byte-at .ensures .0) (c5 .if1 .taken) (c9 .pre .0) refl .fits) })
+    (λ c. let c5 = c .before .before .before .before .before in let c6 = c5 .before in let c9 = c6 .before .before .before in record {
+      fits = omega (
+        arith,
+        c9 .pre .1,
+        plain-text _ _ 0 0 (c6 .byte-at .ensures .0) (c5 .if1 .taken) (c9 .pre .0)
+            (c .before .before .before .before .byte-at2 .ensures .0) .fits,
+      );
+    })
     (λ c. search needs)
     returns
     (λ c. record { fits = omega (arith, c .before .before .before .before .before .pre .1, plain-number _ _ 0 0 (c .before .before .byte-at .ensures .0) (c .before .if1 .left) (c .before .before .before .before .before .pre .0) .fits) })
     (λ c κs. (omega arith, omega (arith, plain-number _ _ 0 0 (c .before .before .byte-at .ensures .0) (c .before .if1 .left) (c .before .before .before .before .before .pre .0) .fits)))
     (λ c. search needs)
     (λ c κs. search needs)
-    (λ c. record { fits = omega (arith, c .before .before .before .before .before .before .before .before .before .pre .1, plain-number _ _ 0 0 (c .before .before .before .before .before .before .byte-at .ensures .0) (c .before .before .before .before .before .if1 .left) (c .before .before .before .before .before .before .before .before .before .pre .0) .fits) })
+    (λ c. let c5 = c .before .before .before .before .before in let c6 = c5 .before in let c9 = c6 .before .before .before in record { fits = omega (arith, c9 .pre .1, plain-number _ _ 0 0 (c6 .byte-at .ensures .0) (c5 .if1 .left) (c9 .pre .0) .fits) })
     (λ c. search needs)
     returns-2)

@@ -29,10 +29,17 @@ repeated-spec =
     (λ c κs. tt)
     (λ c κs. tt)
     (λ c. record { fits = omega (arith, (c .before .before .before .before .before .before .before .good), (key-inside _ _ ((c .before .before .before .before .before .before .before .pre) .0) refl)) })
-    (λ c κs. let f = first-of ((c .before .before .before .loop .inv) .ran) (c .before .before .loop-test .taken) in (omega (arith, f .inside, (c .wide2 .ensures) .0, (c .before .byte-at2 .ensures) .0), key-inside _ _ ((c .before .before .before .before .before .before .before .pre) .0) ((c .before .before .before .before .wide .ensures) .0 ∙ (c .before .before .before .before .before .byte-at .ensures) .0)))
-    (λ c. looking-same (c .before .before .before .before .before .loop .inv) (c .before .before .before .before .loop-test .taken) (key-same _ _ _ ((c .before .before .wide2 .ensures) .0 ∙ (c .before .before .before .byte-at2 .ensures) .0) ((c .before .before .before .before .before .before .wide .ensures) .0 ∙ (c .before .before .before .before .before .before .before .byte-at .ensures) .0) (c .before .same-text .ensures)) (c .if1 .taken))
+    (λ c κs. let c5 = c .before .before .before .before .before in let c7 = c5 .before .before in let f = first-of ((c .before .before .before .loop .inv) .ran) (c .before .before .loop-test .taken) in (
+      omega
+          (arith, f .inside, (c .wide2 .ensures) .0, (c .before .byte-at2 .ensures) .0),
+      key-inside _ _ ((c7 .pre) .0) ((c .before .before .before .before .wide .ensures) .0 ∙ (c5 .byte-at .ensures) .0),
+    ))
+    (λ c. let c5 = c .before .before .before .before .before in let c6 = c5 .before in let c7 = c6 .before in looking-same (c5 .loop .inv) (c .before .before .before .before .loop-test .taken) (key-same _ _ _
+    ((c .before .before .wide2 .ensures) .0 ∙ (c .before .before .before .byte-at2 .ensures) .0) ((c6 .wide .ensures) .0 ∙ (c7 .byte-at .ensures) .0) (c .before .same-text .ensures)) (c .if1 .taken))
     (λ c κs. let f = first-of ((c .before .before .before .before .before .loop .inv) .ran) (c .before .before .before .before .loop-test .taken) in omega (arith, f .inside))
     (λ c κs. value-at (first-of ((c .before .before .before .before .before .before .loop .inv) .ran) (c .before .before .before .before .before .loop-test .taken)) ((c .text-stop .ensures) .0))
-    (λ c. let f = first-of ((c .before .before .before .before .before .before .before .loop .inv) .ran) (c .before .before .before .before .before .before .loop-test .taken) in let far = (c .before .text-stop .ensures) .1 (let t = f .text in stop-positive _ _ t ((c .before .text-stop .ensures) .0)) in omega (arith, far, (c .skip-value .ensures) .1, (c .skip-value .ensures) .2))
-    (λ c. looking-more (c .before .before .before .before .before .before .before .loop .inv) (c .before .before .before .before .before .before .loop-test .taken) (key-same _ _ _ ((c .before .before .before .before .wide2 .ensures) .0 ∙ (c .before .before .before .before .before .byte-at2 .ensures) .0) ((c .before .before .before .before .before .before .before .before .wide .ensures) .0 ∙ (c .before .before .before .before .before .before .before .before .before .byte-at .ensures) .0) (c .before .before .before .same-text .ensures)) (c .before .before .if1 .left) ((c .before .text-stop .ensures) .0) ((c .skip-value .ensures) .0))
+    (λ c. let c6 = c .before .before .before .before .before .before in let c7 = c6 .before in let f = first-of ((c7 .loop .inv) .ran) (c6 .loop-test .taken) in let far = (c .before .text-stop .ensures) .1 (let t = f .text in stop-positive _ _ t
+    ((c .before .text-stop .ensures) .0)) in omega (arith, far, (c .skip-value .ensures) .1, (c .skip-value .ensures) .2))
+    (λ c. let c5 = c .before .before .before .before .before in let c6 = c5 .before in let c7 = c6 .before in let c8 = c7 .before in let c9 = c8 .before in looking-more (c7 .loop .inv) (c6 .loop-test .taken) (key-same _ _ _
+    ((c .before .before .before .before .wide2 .ensures) .0 ∙ (c5 .byte-at2 .ensures) .0) ((c8 .wide .ensures) .0 ∙ (c9 .byte-at .ensures) .0) (c .before .before .before .same-text .ensures)) (c .before .before .if1 .left) ((c .before .text-stop .ensures) .0) ((c .skip-value .ensures) .0))
     (λ c. looking-done (c .before .loop .inv) (c .loop-test .left)))

@@ -76,19 +76,41 @@ pub +read-map+read-value-spec : {M : Type 1} → statement M
     (λ c κs. tt)
     (λ c κs. (c .before .before .loop .inv) .1)
     (λ c κs. tt)
-    (λ c. told-map-no (c .wrong .ensures) (going-cut ((c .before .before .before .before .before .loop .inv) .2) ((c .before .before .before .before .before .loop .inv) .1) ((c .before .before .before .before .byte-at .ensures) .0) (c .before .before .before .if1 .taken) ((c .before .before .text-stop .ensures) .0) (c .before .if2 .taken)) (λ z. absurd (omega arith)))
+    (λ c. let c5 = c .before .before .before .before .before in told-map-no (c .wrong .ensures) (going-cut ((c5 .loop .inv) .2) ((c5 .loop .inv) .1) ((c .before .before .before .before .byte-at .ensures) .0) (c .before .before .before .if1 .taken)
+    ((c .before .before .text-stop .ensures) .0) (c .before .if2 .taken)) (λ z. absurd (omega arith)))
     (λ c κs. ((λ z. (c .if2 .left) ((c .before .text-stop .ensures) .0 ∙ z)), ran-of ((c .before .before .before .before .loop .inv) .2)))
     (λ c κs. tt)
-    (λ c. told-map-no (c .wrong2 .ensures) (going-twice ((c .before .before .before .before .before .before .before .loop .inv) .2) ((c .before .before .before .before .before .before .before .loop .inv) .1) ((c .before .before .before .before .before .before .byte-at .ensures) .0) (c .before .before .before .before .before .if1 .taken) ((c .before .before .before .before .text-stop .ensures) .0) (c .before .before .before .if2 .left) (c .before .before .repeated .ensures) (c .before .if3 .taken)) (λ z. absurd (omega arith)))
+    (λ c. let c5 = c .before .before .before .before .before in let c6 = c5 .before in let c7 = c6 .before in told-map-no (c .wrong2 .ensures) (going-twice ((c7 .loop .inv) .2) ((c7 .loop .inv) .1) ((c6 .byte-at .ensures) .0) (c5 .if1 .taken)
+    ((c .before .before .before .before .text-stop .ensures) .0) (c .before .before .before .if2 .left) (c .before .before .repeated .ensures) (c .before .if3 .taken)) (λ z. absurd (omega arith)))
     (λ c κs. (omega (arith, (c .before .before .before .before .before .before .before .before .pre) .0), (c .before .before .before .text-stop .ensures) .1 (omega (arith, (c .before .before .if2 .left))) .1))
     (λ c κs. tt)
-    (λ c. told-map-no (c .wrong3 .ensures) (going-bad ((c .before .before .before .before .before .before .before .before .before .before .loop .inv) .2) ((c .before .before .before .before .before .before .before .before .before .before .loop .inv) .1) ((c .before .before .before .before .before .before .before .before .before .byte-at .ensures) .0) (c .before .before .before .before .before .before .before .before .if1 .taken) ((c .before .before .before .before .before .before .before .text-stop .ensures) .0) (c .before .before .before .before .before .before .if2 .left) (c .before .before .before .before .before .repeated .ensures) (c .before .before .before .before .if3 .left) ((c .before .before .before .read-value .ensures) .0) ((c .before .before .before .read-value .ensures) .1) (c .before .if4 .taken)) (c .before .if4 .taken))
-    (λ c. record { fits = omega (arith, (c .before .before .before .before .before .before .before .before .before .before .before .good), (c .before .before .before .before .before .before .before .before .before .loop .inv) .0, (c .before .before .before .before .before .before .before .before .before .loop .inv) .1, (c .before .before .before .before .before .before .text-stop .ensures) .1 (omega (arith, (c .before .before .before .before .before .if2 .left)))) })
-    (λ c. let v = (c .before .before .before .read-value .ensures) .2 (c .before .if4 .left) in record { fits = omega (arith, (c .before .before .before .before .before .before .before .before .before .before .before .before .good), (c .before .before .before .before .before .before .before .before .before .before .loop .inv) .0, v .0, v .1, (c .before .before .before .before .before .before .before .text-stop .ensures) .1 (omega (arith, (c .before .before .before .before .before .before .if2 .left)))) })
-    (λ c. let s = (c .before .before .before .before .before .before .before .text-stop .ensures) .1 (omega (arith, (c .before .before .before .before .before .before .if2 .left))) in let v = (c .before .before .before .read-value .ensures) .2 (c .before .if4 .left) in omega (arith, s .0, v .0, v .1))
-    (λ c. let s = (c .before .before .before .before .before .before .before .text-stop .ensures) .1 (omega (arith, (c .before .before .before .before .before .before .if2 .left))) in let v = (c .before .before .before .read-value .ensures) .2 (c .before .if4 .left) in (omega (arith, (c .before .before .before .before .before .before .before .before .before .before .loop .inv) .0, s .0, v .0), v .1, going-more ((c .before .before .before .before .before .before .before .before .before .before .loop .inv) .2) ((c .before .before .before .before .before .before .before .before .before .before .loop .inv) .1) ((c .before .before .before .before .before .before .before .before .before .byte-at .ensures) .0) (c .before .before .before .before .before .before .before .before .if1 .taken) ((c .before .before .before .before .before .before .before .text-stop .ensures) .0) (c .before .before .before .before .before .before .if2 .left) (c .before .before .before .before .before .repeated .ensures) (c .before .before .before .before .if3 .left) ((c .before .before .before .read-value .ensures) .0) ((c .before .before .before .read-value .ensures) .1) (c .before .if4 .left) (omega (arith, s .0, v .0)) (v .2)))
+    (λ c. let c5 = c .before .before .before .before .before in let c6 = c5 .before in let c7 = c6 .before in let c8 = c7 .before in let c9 = c8 .before in let c10 = c9 .before in told-map-no (c .wrong3 .ensures) (going-bad ((c10 .loop .inv) .2) ((c10 .loop .inv) .1)
+    ((c9 .byte-at .ensures) .0) (c8 .if1 .taken) ((c7 .text-stop .ensures) .0) (c6 .if2 .left) (c5 .repeated .ensures) (c .before .before .before .before .if3 .left) ((c .before .before .before .read-value .ensures) .0) ((c .before .before .before .read-value .ensures) .1)
+    (c .before .if4 .taken)) (c .before .if4 .taken))
+    (λ c. let c5 = c .before .before .before .before .before in let c6 = c5 .before in let c9 = c6 .before .before .before in let c11 = c9 .before .before in record {
+      fits = omega (
+        arith,
+        (c11 .good),
+        (c9 .loop .inv) .0,
+        (c9 .loop .inv) .1,
+        (c6 .text-stop .ensures) .1 (omega
+            (arith, (c5 .if2 .left))),
+      );
+    })
+    (λ c. let c6 = c .before .before .before .before .before .before in let c7 = c6 .before in let c10 = c7 .before .before .before in let c12 = c10 .before .before in let v = (c .before .before .before .read-value .ensures) .2 (c .before .if4 .left) in record {
+      fits = omega
+          (arith, (c12 .good), (c10 .loop .inv) .0, v .0, v .1, (c7 .text-stop .ensures) .1 (omega (arith, (c6 .if2 .left))));
+    })
+    (λ c. let c6 = c .before .before .before .before .before .before in let c7 = c6 .before in let s = (c7 .text-stop .ensures) .1 (omega (arith, (c6 .if2 .left))) in let v = (c .before .before .before .read-value .ensures) .2 (c .before .if4 .left) in omega (arith, s .0, v .0, v .1))
+    (λ c. let c3 = c .before .before .before in let c5 = c3 .before .before in let c6 = c5 .before in let c7 = c6 .before in let c8 = c7 .before in let c9 = c8 .before in let c10 = c9 .before in let s = (c7 .text-stop .ensures) .1 (omega
+    (arith, (c6 .if2 .left))) in let v = (c3 .read-value .ensures) .2 (c .before .if4 .left) in (
+      omega (arith, (c10 .loop .inv) .0, s .0, v .0),
+      v .1,
+      going-more ((c10 .loop .inv) .2) ((c10 .loop .inv) .1) ((c9 .byte-at .ensures) .0) (c8 .if1 .taken) ((c7 .text-stop .ensures) .0)
+          (c6 .if2 .left) (c5 .repeated .ensures) (c .before .before .before .before .if3 .left) ((c3 .read-value .ensures) .0) ((c3 .read-value .ensures) .1) (c .before .if4 .left) (omega (arith, s .0, v .0)) (v .2),
+    ))
     (λ c κs. tt)
-    (λ c. told-map-yes _ _ (c .well .ensures) (going-done ((c .before .before .before .loop .inv) .2) ((c .before .before .before .loop .inv) .1) ((c .before .before .byte-at .ensures) .0) (c .before .if1 .left)) ((c .before .before .before .loop .inv) .0) ((c .before .before .before .loop .inv) .1)))
+    (λ c. let c3 = c .before .before .before in told-map-yes _ _ (c .well .ensures) (going-done ((c3 .loop .inv) .2) ((c3 .loop .inv) .1) ((c .before .before .byte-at .ensures) .0) (c .before .if1 .left)) ((c3 .loop .inv) .0) ((c3 .loop .inv) .1)))
     λ t. read-value-lts.spec (
       byte-at-reads.Asked,
       byte-at-reads.Learnt,
@@ -114,9 +136,11 @@ pub +read-map+read-value-spec : {M : Type 1} → statement M
     (λ c κs. tt)
     (λ c. record { fits = omega (arith, (c .before .before .before .before .before .before .good), (c .before .before .before .before .before .before .pre) .1) })
     (λ c κs. tt)
-    (λ c. told-no (c .wrong .ensures) (value-no-text _ _ _ ((c .before .before .before .before .before .byte-at .ensures) .0) (c .before .before .before .before .if1 .taken) ((c .before .before .before .text-stop .ensures) .0) (c .before .before .if2 .taken) ((c .before .no-text .ensures) .0)) ((c .before .no-text .ensures) .1))
+    (λ c. let c5 = c .before .before .before .before .before in told-no (c .wrong .ensures) (value-no-text _ _ _ ((c5 .byte-at .ensures) .0) (c .before .before .before .before .if1 .taken) ((c .before .before .before .text-stop .ensures) .0) (c .before .before .if2 .taken)
+    ((c .before .no-text .ensures) .0)) ((c .before .no-text .ensures) .1))
     (λ c κs. tt)
-    (λ c. let s = (c .before .before .text-stop .ensures) .1 (omega (arith, (c .before .if2 .left))) in told-yes _ _ (c .well .ensures) (value-text _ _ _ ((c .before .before .before .before .byte-at .ensures) .0) (c .before .before .before .if1 .taken) ((c .before .before .text-stop .ensures) .0) (c .before .if2 .left)) (omega (arith, s .0)) (s .1) (size-text _))
+    (λ c. let s = (c .before .before .text-stop .ensures) .1 (omega (arith, (c .before .if2 .left))) in told-yes _ _ (c .well .ensures) (value-text _ _ _ ((c .before .before .before .before .byte-at .ensures) .0) (c .before .before .before .if1 .taken)
+    ((c .before .before .text-stop .ensures) .0) (c .before .if2 .left)) (omega (arith, s .0)) (s .1) (size-text _))
     (λ c. record { fits = omega (arith, (c .before .before .before .before .good), (c .before .before .before .before .pre) .1) })
     (λ c. record { fits = omega (arith, (c .before .before .before .before .before .good), (c .before .before .before .before .before .pre) .1) })
     (λ c κs. tt)
@@ -129,13 +153,18 @@ pub +read-map+read-value-spec : {M : Type 1} → statement M
     (λ c. omega (arith, (c .if6 .left)))
     (λ c κs. (omega (arith, (c .if6 .left), (c .before .before .before .before .before .before .pre) .0), omega (arith, (c .before .before .before .before .byte-at .ensures) .1 (omega (arith, (c .before .if5 .taken))))))
     (λ c κs. tt)
-    (λ c. told-no (c .wrong4 .ensures) (map-refused _ _ _ ((c .before .before .before .before .before .before .before .before .byte-at .ensures) .0) (c .before .before .before .before .before .before .before .if1 .left) (c .before .before .before .before .before .before .if3 .left) (c .before .before .before .before .before .if5 .taken) (c .before .before .before .before .if6 .left) ((c .before .before .before .read-map .ensures) .0) ((c .before .before .before .read-map .ensures) .1) (c .before .if7 .taken)) (omega (arith, (c .before .if7 .taken))))
+    (λ c. let c5 = c .before .before .before .before .before in let c6 = c5 .before in let c7 = c6 .before in let c8 = c7 .before in told-no (c .wrong4 .ensures) (map-refused _ _ _ ((c8 .byte-at .ensures) .0) (c7 .if1 .left) (c6 .if3 .left) (c5 .if5 .taken)
+    (c .before .before .before .before .if6 .left) ((c .before .before .before .read-map .ensures) .0) ((c .before .before .before .read-map .ensures) .1) (c .before .if7 .taken)) (omega (arith, (c .before .if7 .taken))))
     (λ c κs. tt)
     (λ c. record { fits = omega (arith, (c .before .before .before .before .before .before .before .before .before .before .before .before .good), (c .before .before .before .before .before .read-map .ensures) .2 (c .before .before .before .if7 .left)) })
     (λ c κs. tt)
-    (λ c. let w = (c .before .before .before .before .before .before .read-map .ensures) .2 (c .before .before .before .before .if7 .left) in told-yes _ _ (c .well3 .ensures) (map-closed _ _ _ ((c .before .before .before .before .before .before .before .before .before .before .before .byte-at .ensures) .0) (c .before .before .before .before .before .before .before .before .before .before .if1 .left) (c .before .before .before .before .before .before .before .before .before .if3 .left) (c .before .before .before .before .before .before .before .before .if5 .taken) (c .before .before .before .before .before .before .before .if6 .left) ((c .before .before .before .before .before .before .read-map .ensures) .0) ((c .before .before .before .before .before .before .read-map .ensures) .1) (c .before .before .before .before .if7 .left) ((c .before .before .before .byte-at2 .ensures) .0) (c .before .before .if8 .taken)) (omega (arith, w .0)) (omega (arith, (c .before .before .before .byte-at2 .ensures) .1 (omega (arith, (c .before .before .if8 .taken))))) (size-map _ (w .2)))
+    (λ c. let c6 = c .before .before .before .before .before .before in let c7 = c6 .before in let c8 = c7 .before in let c9 = c8 .before in let c10 = c9 .before in let c11 = c10 .before in let w = (c6 .read-map .ensures) .2 (c .before .before .before .before .if7 .left) in told-yes _ _
+    (c .well3 .ensures) (map-closed _ _ _ ((c11 .byte-at .ensures) .0) (c10 .if1 .left) (c9 .if3 .left) (c8 .if5 .taken) (c7 .if6 .left) ((c6 .read-map .ensures) .0) ((c6 .read-map .ensures) .1) (c .before .before .before .before .if7 .left)
+    ((c .before .before .before .byte-at2 .ensures) .0) (c .before .before .if8 .taken)) (omega (arith, w .0)) (omega (arith, (c .before .before .before .byte-at2 .ensures) .1 (omega (arith, (c .before .before .if8 .taken))))) (size-map _ (w .2)))
     (λ c κs. tt)
     (λ c κs. tt)
-    (λ c. told-no (c .wrong5 .ensures) (map-open _ _ _ ((c .before .before .before .before .before .before .before .before .before .before .before .byte-at .ensures) .0) (c .before .before .before .before .before .before .before .before .before .before .if1 .left) (c .before .before .before .before .before .before .before .before .before .if3 .left) (c .before .before .before .before .before .before .before .before .if5 .taken) (c .before .before .before .before .before .before .before .if6 .left) ((c .before .before .before .before .before .before .read-map .ensures) .0) ((c .before .before .before .before .before .before .read-map .ensures) .1) (c .before .before .before .before .if7 .left) ((c .before .before .before .byte-at2 .ensures) .0) (c .before .before .if8 .left) ((c .before .other-wrong .ensures) .0)) ((c .before .other-wrong .ensures) .1))
+    (λ c. let c6 = c .before .before .before .before .before .before in let c7 = c6 .before in let c8 = c7 .before in let c9 = c8 .before in let c10 = c9 .before in let c11 = c10 .before in told-no (c .wrong5 .ensures) (map-open _ _ _ ((c11 .byte-at .ensures) .0) (c10 .if1 .left)
+    (c9 .if3 .left) (c8 .if5 .taken) (c7 .if6 .left) ((c6 .read-map .ensures) .0) ((c6 .read-map .ensures) .1) (c .before .before .before .before .if7 .left) ((c .before .before .before .byte-at2 .ensures) .0) (c .before .before .if8 .left) ((c .before .other-wrong .ensures) .0))
+    ((c .before .other-wrong .ensures) .1))
     (λ c κs. tt)
     (λ c. told-no (c .wrong6 .ensures) (value-none _ _ _ ((c .before .before .before .before .byte-at .ensures) .0) (c .before .before .before .if1 .left) (c .before .before .if3 .left) (c .before .if5 .left)) (omega arith))

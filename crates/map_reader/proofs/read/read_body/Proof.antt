@@ -16,6 +16,13 @@ read-body-spec =
     (λ c. answer-long _ _ ((c .before .before .before .read-whole .ensures) .1 (c .before .if1 .left)) (c .if2 .taken))
     (λ c. record { fits = omega (arith, ((c .before .before .before .before .read-whole .ensures) .1 (c .before .before .if1 .left)) .few, (c .before .if2 .left)) })
     (λ c. answer-short _ _ ((c .before .before .before .before .before .read-whole .ensures) .1 (c .before .before .before .if1 .left)) (c .before .before .if2 .left) (c .if3 .taken))
-    (λ c κs. (((c .before .before .before .before .before .before .read-whole .ensures) .1 (c .before .before .before .before .if1 .left)) .ok, omega arith, omega (arith, (c .before .before .before .if2 .left)), fill-room _ _ ((c .before .before .before .before .before .before .read-whole .ensures) .1 (c .before .before .before .before .if1 .left)) (c .before .before .before .if2 .left) (c .before .if3 .left)))
+    (λ c κs. let c6 = c .before .before .before .before .before .before in (
+      ((c6 .read-whole .ensures) .1 (c .before .before .before .before .if1 .left)) .ok,
+      omega arith,
+      omega (arith, (c .before .before .before .if2 .left)),
+      fill-room _ _ ((c6 .read-whole .ensures) .1
+          (c .before .before .before .before .if1 .left)) (c .before .before .before .if2 .left) (c .before .if3 .left),
+    ))
     (λ c. wrote-length ((c .before .before .fill-map .ensures) .3))
-    (λ c. answer-yes _ _ ((c .before .before .before .before .before .before .before .before .before .read-whole .ensures) .1 (c .before .before .before .before .before .before .before .if1 .left)) (c .before .before .before .before .before .before .if2 .left) (c .before .before .before .before .if3 .left) ((c .before .before .fill-map .ensures) .1) ((c .before .before .fill-map .ensures) .3)))
+    (λ c. let c6 = c .before .before .before .before .before .before in let c7 = c6 .before in let c9 = c7 .before .before in answer-yes _ _ ((c9 .read-whole .ensures) .1 (c7 .if1 .left)) (c6 .if2 .left) (c .before .before .before .before .if3 .left)
+    ((c .before .before .fill-map .ensures) .1) ((c .before .before .fill-map .ensures) .3)))

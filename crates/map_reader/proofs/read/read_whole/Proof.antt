@@ -11,7 +11,8 @@ read-whole-spec =
     (tie.spec
     (λ c κs. omega arith)
     (λ c. told-refused _ ((c .before .before .read-map .ensures) .0) ((c .before .before .read-map .ensures) .1) (c .if1 .taken))
-    (λ c. let w = (c .before .before .before .before .read-map .ensures) .2 (c .before .before .if1 .left) in told-whole _ ((c .before .before .before .before .read-map .ensures) .0) ((c .before .before .before .before .read-map .ensures) .1) (c .before .before .if1 .left) (c .if2 .taken) (omega (arith, w .0)) (w .2))
+    (λ c. let c4 = c .before .before .before .before in let w = (c4 .read-map .ensures) .2 (c .before .before .if1 .left) in told-whole _ ((c4 .read-map .ensures) .0) ((c4 .read-map .ensures) .1) (c .before .before .if1 .left) (c .if2 .taken) (omega (arith, w .0)) (w .2))
     (λ c κs. tt)
     (λ c κs. tt)
-    (λ c. told-as (c .wrong .ensures) (told-more _ ((c .before .before .before .before .before .before .read-map .ensures) .0) ((c .before .before .before .before .before .before .read-map .ensures) .1) (c .before .before .before .before .if1 .left) (c .before .before .if2 .left) ((c .before .other-wrong .ensures) .0) ((c .before .other-wrong .ensures) .1))))
+    (λ c. let c6 = c .before .before .before .before .before .before in told-as (c .wrong .ensures) (told-more _ ((c6 .read-map .ensures) .0) ((c6 .read-map .ensures) .1) (c .before .before .before .before .if1 .left) (c .before .before .if2 .left) ((c .before .other-wrong .ensures) .0)
+    ((c .before .other-wrong .ensures) .1))))

@@ -64,9 +64,12 @@ pub +skip-map+skip-value-spec : {M : Type 1} → statement M
     (λ c. (omega arith, passing-start _ _ _ ((c .before .pre) .1 .1) ((c .before .pre) .1 .0)))
     (λ c κs. tt)
     (λ c κs. (c .before .before .loop .inv) .1 .within)
-    (λ c κs. let h = here-of ((c .before .before .before .loop .inv) .1) (λ j. (c .before .before .before .before .shared-slice-known .given) j .fits) ((c .before .before .byte-at .ensures) .0) (c .before .if1 .taken) ((c .text-stop .ensures) .0) in (omega (arith, (c .before .before .before .before .before .pre) .0), h .value-ok))
-    (λ c. let h = here-of ((c .before .before .before .before .loop .inv) .1) (λ j. (c .before .before .before .before .before .shared-slice-known .given) j .fits) ((c .before .before .before .byte-at .ensures) .0) (c .before .before .if1 .taken) ((c .before .text-stop .ensures) .0) in omega (arith, h .far, h .within, (c .skip-value .ensures) .1, (c .skip-value .ensures) .2))
-    (λ c. let h = here-of ((c .before .before .before .before .loop .inv) .1) (λ j. (c .before .before .before .before .before .shared-slice-known .given) j .fits) ((c .before .before .before .byte-at .ensures) .0) (c .before .before .if1 .taken) ((c .before .text-stop .ensures) .0) in (omega (arith, (c .before .before .before .before .loop .inv) .0, h .far, (c .skip-value .ensures) .1), passing-on h ((c .skip-value .ensures) .0)))
+    (λ c κs. let c5 = c .before .before .before .before .before in let h = here-of ((c .before .before .before .loop .inv) .1) (λ j. (c .before .before .before .before .shared-slice-known .given) j .fits) ((c .before .before .byte-at .ensures) .0) (c .before .if1 .taken)
+    ((c .text-stop .ensures) .0) in (omega (arith, (c5 .pre) .0), h .value-ok))
+    (λ c. let c5 = c .before .before .before .before .before in let h = here-of ((c .before .before .before .before .loop .inv) .1) (λ j. (c5 .shared-slice-known .given) j .fits) ((c .before .before .before .byte-at .ensures) .0) (c .before .before .if1 .taken)
+    ((c .before .text-stop .ensures) .0) in omega (arith, h .far, h .within, (c .skip-value .ensures) .1, (c .skip-value .ensures) .2))
+    (λ c. let c5 = c .before .before .before .before .before in let h = here-of ((c .before .before .before .before .loop .inv) .1) (λ j. (c5 .shared-slice-known .given) j .fits) ((c .before .before .before .byte-at .ensures) .0) (c .before .before .if1 .taken)
+    ((c .before .text-stop .ensures) .0) in (omega (arith, (c .before .before .before .before .loop .inv) .0, h .far, (c .skip-value .ensures) .1), passing-on h ((c .skip-value .ensures) .0)))
     (λ c. let x = passing-done ((c .before .before .loop .inv) .1) ((c .before .byte-at .ensures) .0) (c .if1 .left) in (x .0, (c .before .before .loop .inv) .0, x .1)))
     λ t. skip-value-lts.spec (
       byte-at-reads.Asked,
@@ -90,5 +93,10 @@ pub +skip-map+skip-value-spec : {M : Type 1} → statement M
     (λ c. let t = deep-else _ _ _ ((c .before .before .byte-at .ensures) .0) (c .before .if1 .left) (c .if2 .left) ((c .before .before .before .before .pre) .1) in record { fits = omega (arith, (c .before .before .before .before .good), t .within) })
     (λ c. let t = deep-else _ _ _ ((c .before .before .byte-at .ensures) .0) (c .before .if1 .left) (c .if2 .left) ((c .before .before .before .before .pre) .1) in t .deep)
     (λ c κs. let t = deep-else _ _ _ ((c .before .before .byte-at .ensures) .0) (c .before .if1 .left) (c .if2 .left) ((c .before .before .before .before .pre) .1) in (omega (arith, (c .before .before .before .before .pre) .0, t .deep), (t .ok, t .within)))
-    (λ c. let t = deep-else _ _ _ ((c .before .before .before .byte-at .ensures) .0) (c .before .before .if1 .left) (c .before .if2 .left) ((c .before .before .before .before .before .pre) .1) in record { fits = omega (arith, (c .before .before .before .before .before .good), t .stop-in, (c .skip-map .ensures) .0) })
-    (λ c. let t = deep-else _ _ _ ((c .before .before .before .byte-at .ensures) .0) (c .before .before .if1 .left) (c .before .if2 .left) ((c .before .before .before .before .before .pre) .1) in let e = (c .skip-map .ensures) .0 in (stop-as (t .is) (ap (λ k. k + 1) e), omega (arith, (c .skip-map .ensures) .1), omega (arith, e, t .stop-in)))
+    (λ c. let c5 = c .before .before .before .before .before in let t = deep-else _ _ _ ((c .before .before .before .byte-at .ensures) .0) (c .before .before .if1 .left) (c .before .if2 .left) ((c5 .pre) .1) in record { fits = omega (arith, (c5 .good), t .stop-in, (c .skip-map .ensures) .0) })
+    (λ c. let c5 = c .before .before .before .before .before in let t = deep-else _ _ _ ((c .before .before .before .byte-at .ensures) .0) (c .before .before .if1 .left) (c .before .if2 .left) ((c5 .pre) .1) in let e = (c .skip-map .ensures) .0 in (
+      stop-as (t .is) (ap
+          (λ k. k + 1) e),
+      omega (arith, (c .skip-map .ensures) .1),
+      omega (arith, e, t .stop-in),
+    ))

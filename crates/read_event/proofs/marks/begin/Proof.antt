@@ -15,7 +15,9 @@ use Rattle.read_event.proofs.marks.mark_offsets.Reads as mark-offsets-r
 use Rattle.read_event.proofs.marks.opened.Reads as opened-reads
 
 opened-requires : tie.Need-opened-requires
-opened-requires c κs = λ e. open-room _ _ _ _ _ (c .before .before .before .before .before .before .before .before .before .before .before .before .before .before .before .before .before .is-first .result) (c .before .before .before .before .before .before .before .before .before .before .before .before .before .before .before .before .before .is-first .ensures) e
+opened-requires c κs =
+    let c17 = c .before .before .before .before .before .before .before .before .before .before .before .before .before .before .before .before .before in
+    λ e. open-room _ _ _ _ _ (c17 .is-first .result) (c17 .is-first .ensures) e
 
 returns : tie.Need-returns
 returns c =

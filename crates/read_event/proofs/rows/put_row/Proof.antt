@@ -11,7 +11,9 @@ use Rattle.read_event.proofs.rows.put_row.Lts as lts
 use Rattle.record.proofs.get.Reads as get-reads
 
 get-requires : tie.Need-get-requires
-get-requires c κs = let a = c .before .before .before .before .before .before .args in (c .before .before .before .before .before .before .pre .0, in-only (a .widths .now) (a .cells .now) (a .rows) (a .row) (c .before .before .before .before .before .before .pre .2) (omega arith), c .before .before .before .before .before .before .pre .1 (c .before .before .if1 .taken))
+get-requires c κs =
+    let c6 = c .before .before .before .before .before .before in
+    let a = c6 .args in (c6 .pre .0, in-only (a .widths .now) (a .cells .now) (a .rows) (a .row) (c6 .pre .2) (omega arith), c6 .pre .1 (c .before .before .if1 .taken))
 
 returns : tie.Need-returns
 returns c = (c .before .before .get .ensures .1 ∙ row-put _ _ _ _ _ _ (c .before .before .before .before .before .if1 .taken) (omega arith), next-put _ _ _ (c .before .before .before .before .before .if1 .taken) (omega arith))

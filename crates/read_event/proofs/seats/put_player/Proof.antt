@@ -24,10 +24,15 @@ mul-get-2 : tie.Need-mul-get-2
 mul-get-2 c = omega (arith, block-in _ _ (c .before .before .block-at .result) _ (c .before .before .before .before .before .before .before .before .before .before .pre .1 .room) (c .before .if4 .taken), c .before .before .before .before .before .before .before .before .before .before .good)
 
 add-get-2 : tie.Need-add-get-2
-add-get-2 c = omega (arith, block-in _ _ (c .before .before .block-at .result) _ (c .before .before .before .before .before .before .before .before .before .before .pre .1 .room) (c .before .if4 .taken), c .before .before .before .before .before .before .before .before .before .before .good, c .before .before .before .before .before .before .before .before .before .before .pre .2)
+add-get-2 c =
+    let c10 = c .before .before .before .before .before .before .before .before .before .before in
+    omega (arith, block-in _ _ (c .before .before .block-at .result) _ (c10 .pre .1 .room) (c .before .if4 .taken), c10 .good, c10 .pre .2)
 
 get-requires : tie.Need-get-requires
-get-requires c κs = (omega arith, in-block _ _ _ _ (c .before .before .block-at .result) _ (c .before .before .before .before .before .before .before .before .before .before .pre .1) (c .before .if4 .taken) (omega arith), c .before .before .before .before .before .before .before .before .before .before .pre .0 (c .before .before .before .before .before .if1 .taken))
+get-requires c κs =
+    let c5 = c .before .before .before .before .before in
+    let c10 = c5 .before .before .before .before .before in
+    (omega arith, in-block _ _ _ _ (c .before .before .block-at .result) _ (c10 .pre .1) (c .before .if4 .taken) (omega arith), c10 .pre .0 (c5 .if1 .taken))
 
 returns : tie.Need-returns
 returns c = c .before .before .get .ensures .1 ∙ player-put _ _ _ _ _ _ _ (c .before .before .before .before .before .before .before .before .if1 .taken) (omega arith) (omega arith) (c .before .before .before .before .before .block-at .ensures) (c .before .before .before .before .if4 .taken)

@@ -29,20 +29,29 @@ mul-clear-cells-4 : tie.Need-mul-clear-cells-4
 mul-clear-cells-4 c = let h = few-zeros _ _ _ (c .before .before .before .before .before .before .before .before .before .before .pre .1) (c .columns2 .ensures .1) (c .before .before .before .before .before .before .before .before .before .before .pre .2) in omega (arith, h .1)
 
 clear-cells-requires-2 : tie.Need-clear-cells-requires-2
-clear-cells-requires-2 c κs = let e = same-zeros _ _ _ _ (c .before .before .before .before .before .before .before .before .before .before .args .f .counts .frames) (c .before .before .before .before .before .before .before .before .before .before .pre .0) (c .columns2 .ensures .0) in omega (arith, e, c .before .before .before .before .before .before .before .before .before .before .pre .4)
+clear-cells-requires-2 c κs =
+    let c10 = c .before .before .before .before .before .before .before .before .before .before in
+    let e = same-zeros _ _ _ _ (c10 .args .f .counts .frames) (c10 .pre .0) (c .columns2 .ensures .0) in omega (arith, e, c10 .pre .4)
 
 mul-clear-bytes : tie.Need-mul-clear-bytes
 mul-clear-bytes c = omega (arith, few-bits _ _ (c .before .before .before .before .before .before .before .before .before .before .before .before .before .before .pre .1) (c .before .before .before .before .before .before .before .before .before .before .before .before .before .before .pre .2))
 
 clear-bytes-requires : tie.Need-clear-bytes-requires
-clear-bytes-requires c κs = let e = ap (λ (x : ℕ). x * ((c .before .before .before .before .before .before .before .before .before .before .before .before .before .before .args .f .counts .frames + 7) / 8)) (c .before .before .before .before .before .before .before .before .before .before .before .before .before .before .pre .0) in omega (arith, e, c .before .before .before .before .before .before .before .before .before .before .before .before .before .before .pre .5)
+clear-bytes-requires c κs =
+    let c14 = c .before .before .before .before .before .before .before .before .before .before .before .before .before .before in
+    let e = ap (λ (x : ℕ). x * ((c14 .args .f .counts .frames + 7) / 8)) (c14 .pre .0) in omega (arith, e, c14 .pre .5)
 
 returns : tie.Need-returns
 returns c =
-    let a = c .before .before .before .before .before .before .before .before .before .before .before .before .before .before .before .before .before .args in
-    let h = c .before .before .before .before .before .before .before .before .before .before .before .before .before .before .before .before .before .pre in (
-      zero-as _ _ _ _ (same-zeros _ _ _ _ (a .f .counts .frames) (h .0) (c .before .before .before .before .before .before .before .before .before .before .before .before .columns .ensures .0)) (c .before .before .before .before .before .before .before .before .before .before .before .clear-cells .ensures),
-      zero-as _ _ _ _ (same-zeros _ _ _ _ (a .f .counts .frames) (h .0) (c .before .before .before .before .before .before .before .columns2 .ensures .0)) (c .before .before .before .before .before .before .clear-cells2 .ensures),
+    let c6 = c .before .before .before .before .before .before in
+    let c7 = c6 .before in
+    let c11 = c7 .before .before .before .before in
+    let c12 = c11 .before in
+    let c17 = c12 .before .before .before .before .before in
+    let a = c17 .args in
+    let h = c17 .pre in (
+      zero-as _ _ _ _ (same-zeros _ _ _ _ (a .f .counts .frames) (h .0) (c12 .columns .ensures .0)) (c11 .clear-cells .ensures),
+      zero-as _ _ _ _ (same-zeros _ _ _ _ (a .f .counts .frames) (h .0) (c7 .columns2 .ensures .0)) (c6 .clear-cells2 .ensures),
       zero-as _ _ _ _ (ap (λ (x : ℕ). x * ((a .f .counts .frames + 7) / 8)) (h .0)) (c .before .before .clear-bytes .ensures),
     )
 

@@ -132,7 +132,9 @@ after-quiet-requires c κs =
 
 loop-less-2 : tie.Need-loop-less-2 Inv-loop μ-loop
 loop-less-2 c =
-    let b36 = c .before .before .before .before .before .before .before .before .before .before .before .before .before .before .before .before .before .before .before .before .before .before .before .before .before .before .before .before .before .before .before .before .before .before .before .before in
+    let c30 = c .before .before .before .before .before .before .before .before .before .before .before .before .before .before .before .before .before .before .before .before .before .before .before .before .before .before .before .before .before .before in
+    let c36 = c30 .before .before .before .before .before .before in
+    let b36 = c36 in
     let b40 = b36 .before .before .before .before in
     let w = passing-whole _ _ _ _ _ _ _ _ _ (b40 .before .loop .inv .0) (b40 .loop-test .taken) in omega (arith, w .long, b36 .span-of .ensures, b40 .loop-test .taken, c .after-quiet .ensures .forward)
 
