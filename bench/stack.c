@@ -107,6 +107,8 @@ static void call_column(void) { kept = slp_column(SLP_FAMILY_POST, 0).width; }
 static void call_refusal_words(void) { kept = (unsigned char)slp_refusal_words(SLP_NO_SUCH_ID).text[0]; }
 static void call_room(void) { kept = slp_room(slp_plan_of(&game, block.len, codes.len, metadata.len)).bytes; }
 static void call_check(void) { kept = 1 + slp_check(file, file_len).offset; }
+static void call_measure_repair(void) { kept = 1 + slp_measure_repair(file, file_len).bytes; }
+static void call_repair(void) { kept = 1 + slp_repair(file, file_len, out, sizeof out).bytes; }
 static void call_measure(void) { kept = slp_measure(file, file_len).places.block_at; }
 static void call_read(void) { kept = slp_read_game(file, file_len, &space).places.block_at; }
 static void call_first_place(void) { kept = slp_first_place(file, file_len); }
@@ -136,7 +138,7 @@ static const struct {
 	void (*call)(void);
 	size_t most;
 } CALLS[] = {
-	{ "slp_write", call_write, 8600 },
+	{ "slp_write", call_write, 9000 },
 	{ "slp_write_final", call_write_final, 13300 },
 	{ "slp_write_frames", call_write_frames, 6400 },
 	{ "slp_write_frame", call_write_frame, 6400 },
@@ -146,6 +148,8 @@ static const struct {
 	{ "slp_walk", call_walk, 2800 },
 	{ "slp_step_at", call_step_at, 2800 },
 	{ "slp_check", call_check, 2900 },
+	{ "slp_measure_repair", call_measure_repair, 3200 },
+	{ "slp_repair", call_repair, 3300 },
 	{ "slp_measure", call_measure, 4600 },
 	{ "slp_read", call_read, 9700 },
 	{ "slp_write_index", call_write_index, 2800 },

@@ -201,6 +201,46 @@ typedef struct {
  */
 slp_checked slp_check(const uint8_t *file, size_t file_len);
 
+/* ======== repair ========
+ *
+ * What a broken file still holds: the longest beginning of its events that slp_read accepts, as a file of its own. A beginning ends at a place behind an
+ * event, and is accepted if slp_read accepts the file with a length field that says so. What the length field says is not looked at. */
+
+/* What stands behind the events of a repaired file. */
+enum { SLP_REPAIR_TAIL_BRACE = 0, SLP_REPAIR_TAIL_METADATA = 1, SLP_REPAIR_TAIL_REPLACED = 2 };
+
+typedef struct {
+	uint8_t refused;         /* 0, or why nothing is kept; then all else is 0 */
+	uint8_t tail;            /* SLP_REPAIR_TAIL_..: one brace or metadata, both the file's own; or a brace that was put there */
+	uint32_t said;           /* what the length field says of the file that is given */
+	uint32_t length;         /* and of the repaired one: the bytes of its payload table and events */
+	size_t bytes;            /* how many bytes the repaired file has */
+	size_t events;           /* how many events are kept, */
+	size_t event_bytes;      /* and their bytes */
+	size_t dropped_events;   /* how many whole events stand behind them and are not kept, */
+	size_t dropped_bytes;    /* and how many bytes: 0 where the file's own tail stays */
+} slp_repaired;
+
+/* What slp_repair would give, in numbers. Refusals, in this order: 14; 15 (absent, not whole, a size byte that is not 1 modulo 3, or a code twice); 19 if the
+ * first event is no whole GameStart of at least 4 bytes; 1; 19 where no beginning is accepted. No refusal names a place.
+ *
+ *     slp_repaired need = slp_measure_repair(file, len);
+ *     if (need.refused) printf("nothing to keep: %u\n", need.refused);
+ */
+slp_repaired slp_measure_repair(const uint8_t *file, size_t file_len);
+
+/* The signature, the right length, the payload table and the events that are kept, byte for byte, and a tail: the file's own, where no event is dropped and
+ * what stands there is `7d` alone or the metadata's key, a body that slp_read_map reads given room for its entries, and `7d 7d`; else `7d`. Bytes of `out`
+ * past it stay. Refusals as slp_measure_repair, and last 12 for an output that is too short.
+ *
+ * slp_read accepts what is given, always. A file that it accepts, with such a tail and no event behind its own, is repaired to itself, whatever the four
+ * bytes of its length field are.
+ *
+ *     slp_repaired r = slp_repair(file, len, mended, need.bytes);
+ *     if (!r.refused) printf("length %u, was %u; %zu events kept, %zu dropped\n", r.length, r.said, r.events, r.dropped_events);
+ */
+slp_repaired slp_repair(const uint8_t *file, size_t file_len, uint8_t *out, size_t out_len);
+
 /* ======== the index of a replay ========
  *
  * A file beside the replay, to jump to a frame without a walk: `SPX`, version 1 in two bytes, how many frames there are in four, and for each frame,

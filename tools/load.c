@@ -12,14 +12,14 @@
 enum { HEAD = 15, SLICE = 1 << 20, MUCH = 32 << 20 };
 
 /* How far a replay matters: to the end of its event data, as its head says, and so many bytes more; to its own end where the length was never
- * filled in. */
+ * filled in, and where all is asked for. */
 static size_t wanted(const content *c, size_t more)
 {
 	if (c->len < HEAD)
 		return HEAD;
 	if (slp_walk(c->bytes, HEAD).refused == SLP_NOT_A_REPLAY)
 		return HEAD;
-	return unfilled(c->bytes, c->len) ? SIZE_MAX : HEAD + declared_length(c->bytes) + more;
+	return more == ALL_OF_IT || unfilled(c->bytes, c->len) ? SIZE_MAX : HEAD + declared_length(c->bytes) + more;
 }
 
 /* Whether nothing that follows changes what is said: of what a walk refuses, and where no tail can begin that ends the file. The events before the
@@ -61,7 +61,7 @@ static int read_all(int fd, size_t more, content *c)
 	size_t room = 0, end;
 	while ((end = wanted(c, more)) > c->len) {
 		if (room - c->len < SLICE) {
-			if (c->len > MUCH && settled(c))
+			if (more != ALL_OF_IT && c->len > MUCH && settled(c))
 				return 0;
 			int wrong = grow(c, &room);
 			if (wrong)

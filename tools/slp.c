@@ -1,5 +1,5 @@
 /* slp: says what Slippi replays are of, walks them, checks them, lists their events, shows their metadata, frames and a picture, finds a frame, writes
- * them again, whole or their final frames only, writes a short match, says how much room to reserve. */
+ * them again, whole or their final frames only, repairs them, writes a short match, says how much room to reserve. */
 #include <errno.h>
 #include <fcntl.h>
 #include <getopt.h>
@@ -36,6 +36,8 @@ static const char HELP_COMMANDS[] =
 	"  slp resave IN OUT   reads a replay into columns and writes it again\n"
 	"  slp final IN OUT    the same of the final frames only: of each frame id the\n"
 	"                      last row; says how many rows were dropped\n"
+	"  slp repair IN OUT   the longest beginning of a broken replay that is read,\n"
+	"                      with the right length; says what was wrong\n"
 	"  slp demo OUT        writes a short match and walks it\n"
 	"  slp room OPTION..   how many bytes to reserve for a replay before its match\n"
 	"                      is known\n"
@@ -111,6 +113,11 @@ static const char HELP_WORDS[] =
 	"An OUT gets its name when all of it is on the disk. resave says whether it is\n"
 	"the same as IN, byte for byte; what stands after the event data and is no\n"
 	"metadata is left out.\n"
+	"\n"
+	"repair keeps all events up to the last place at which a replay may end: behind\n"
+	"a whole frame or the game's end. What the length field says is not looked at.\n"
+	"The closing brace or metadata of IN stay where they stand right behind these\n"
+	"events and end the file; else a closing brace is put there.\n"
 	"\n"
 	"Names and texts are shown on one line: what is no printable UTF-8 as \\xNN, and\n"
 	"a name that has such a byte, or a colon and a space, in quotes. In JSON they\n"
@@ -188,6 +195,7 @@ static const command COMMANDS[] = {
 	{ "find", find_frame, 2, 2, "needs a file and a frame's id", 0, 0 },
 	{ "resave", resave, 2, 2, "needs two files", TAKES(FORCE), 1 },
 	{ "final", write_final_frames, 2, 2, "needs two files", TAKES(FORCE), 1 },
+	{ "repair", repair, 2, 2, "needs two files", TAKES(FORCE), 1 },
 	{ "demo", write_demo, 1, 1, "needs one file", TAKES(FORCE), 1 },
 	{ "room", show_room, 0, 0, "takes no file", TAKES(ROOM) | TAKES(JSON), 0 },
 	{ "help", print_help, 0, 0, "takes no file", 0, 0 },

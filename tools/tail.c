@@ -15,6 +15,8 @@ int tail_kind(const uint8_t *tail, size_t len)
 	return tail[len - 2] == BRACE && tail[len - 1] == BRACE ? SLP_FILE_TAIL_METADATA : SLP_FILE_TAIL_ODD;
 }
 
+#define TAIL_STANDS "the events end at byte %zu, where the file's tail stands ('slp repair' sets it right)"
+
 void complain_length(const char *name, const content *c, unsigned number, size_t offset)
 {
 	if (number != SLP_UNKNOWN_EVENT && number != SLP_BAD_PLACE)
@@ -22,8 +24,7 @@ void complain_length(const char *name, const content *c, unsigned number, size_t
 	if (tail_kind(c->bytes + offset, c->len - offset) == SLP_FILE_TAIL_ODD)
 		return;
 	if (unfilled(c->bytes, c->len))
-		complain(name, "the length field is zero: the events end at byte %zu, where the file's tail stands", offset);
+		complain(name, "the length field is zero: " TAIL_STANDS, offset);
 	else
-		complain(name, "the length field is %zu too high: the events end at byte %zu, where the file's tail stands",
-		         15 + declared_length(c->bytes) - offset, offset);
+		complain(name, "the length field is %zu too high: " TAIL_STANDS, 15 + declared_length(c->bytes) - offset, offset);
 }

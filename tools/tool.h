@@ -142,7 +142,9 @@ typedef struct {
 } content;
 
 /* A replay up to the end of its event data, and of what stands after that up to `more` bytes, in memory to be freed. What is no replay is not
- * read on, and a long one not much further than where slp_walk refuses it. 0, or an errno. */
+ * read on, and a long one not much further than where slp_walk refuses it; but to its end, whatever its length field says, where ALL_OF_IT is asked
+ * for. 0, or an errno. */
+#define ALL_OF_IT SIZE_MAX
 int load_more(const char *path, size_t more, content *c);
 /* How many bytes files have, as far as that is known before reading. */
 uint64_t total_size(char **paths, int count);
@@ -291,6 +293,7 @@ int draw_picture(const request *q);
 int index_files(const request *q);
 int find_frame(const request *q);
 int resave(const request *q);
+int repair(const request *q);
 int write_final_frames(const request *q);
 int write_demo(const request *q);
 

@@ -158,6 +158,13 @@ FILE = [
         ("reads", "check_file", ["tail: map_reader; 23"]),
         ("given", "sound", ["or what is wrong first"]),
     ]),
+    (["slp_measure_repair", "slp_repair"], [
+        ("lent", "a broken file", ["an output"]),
+        ("reads", "repair_judge", ["14, 15, 19, 1, 19; the length", "is not looked at: repair_head"]),
+        ("reads", "repair_scan", ["the last place where", "a replay may end"]),
+        ("reads", "repair_call", ["12; the length, the tail"]),
+        ("given", "a file", ["that slp_read accepts"]),
+    ]),
     (["slp_write_index", "slp_accepts_index"], [
         ("lent", "a file", ["an output; an index"]),
         ("reads", "head, index_passes", ["14 to 17; FrameStarts counted"]),

@@ -68,6 +68,24 @@ def check(file: File) -> None:
     accepted(c.refused, c.offset)
 
 
+def repair(file: File) -> bytes:
+    """The longest beginning of a broken replay that is read, with the right length, whatever its length field says: of a file that is named, or of bytes.
+
+    >>> front = slp.repair(Path("demo.slp").read_bytes()[:5000])
+    >>> slp.walk(front)
+    Walked(events=73, stray=0, whole=True, place=4720)
+    >>> len(slp.read(front))
+    12
+    """
+    given = content(file)
+    r = call("slp_measure_repair", given)
+    # the call names no place: the table stands at 15
+    accepted(r.refused, 15 if r.refused == d.SLP_BAD_TABLE else 0)
+    out = np.empty(r.bytes, np.uint8)
+    call("slp_repair", given, out)
+    return out.tobytes()
+
+
 class Player:
     """A player's columns: `pre` and `post` have a row for each frame, and `present` says whether the player is in it."""
 

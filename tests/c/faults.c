@@ -35,6 +35,8 @@ slp_run real_slp_rows(uint32_t *out, size_t out_len, slp_frames frames, SLP_STOR
 slp_pre real_slp_pre_of(const uint32_t *cells, size_t cells_len, slp_version version, uint32_t present);
 
 slp_checked real_slp_check(const uint8_t *file, size_t file_len);
+slp_repaired real_slp_measure_repair(const uint8_t *file, size_t file_len);
+slp_repaired real_slp_repair(const uint8_t *file, size_t file_len, uint8_t *out, size_t out_len);
 slp_measured real_slp_measure(const uint8_t *file, size_t file_len);
 slp_opened real_slp_read(const uint8_t *file, size_t file_len, SLP_SPACE_PARAMETERS);
 
@@ -209,6 +211,54 @@ slp_checked slp_check(const uint8_t *file, size_t file_len)
 	if (faulty("check-outside") && file_len)
 		spoil(file + file_len);
 	return c;
+}
+
+slp_repaired slp_measure_repair(const uint8_t *file, size_t file_len)
+{
+	slp_repaired r = real_slp_measure_repair(file, file_len);
+	if (faulty("repair-measure-bytes"))
+		r.bytes += r.tail == 2;
+	if (faulty("repair-measure-none") && r.refused == 19)
+		r.refused = 17;
+	if (faulty("repair-measure-input") && file_len > 20)
+		spoil(file + 20);
+	return r;
+}
+
+slp_repaired slp_repair(const uint8_t *file, size_t file_len, uint8_t *out, size_t out_len)
+{
+	slp_repaired r = real_slp_repair(file, file_len, out, out_len);
+	if (faulty("repair-said"))
+		r.said = r.length;
+	if (faulty("repair-length"))
+		r.length -= r.dropped_events > 1;
+	if (faulty("repair-length-field") && !r.refused)
+		out[14] ^= 1;
+	if (faulty("repair-events"))
+		r.events -= r.tail == 1;
+	if (faulty("repair-event-bytes"))
+		r.event_bytes += r.events > 3;
+	if (faulty("repair-dropped"))
+		r.dropped_events = 0;
+	if (faulty("repair-dropped-bytes"))
+		r.dropped_bytes += r.tail == 1;
+	if (faulty("repair-tail") && r.tail == 2)
+		r.tail = 0;
+	if (faulty("repair-tail-byte") && r.tail == 2)
+		out[r.bytes - 1] = 0;
+	if (faulty("repair-short") && r.refused == 12 && out_len)
+		out[0] ^= 1;
+	if (faulty("repair-refused") && r.refused == 19 && out_len)
+		out[0] ^= 1;
+	if (faulty("repair-beyond") && !r.refused && out_len > r.bytes)
+		out[r.bytes] ^= 1;
+	if (faulty("repair-version") && r.refused == 1)
+		r.refused = 19;
+	if (faulty("repair-input") && file_len > 20)
+		spoil(file + 20);
+	if (faulty("repair-outside") && out_len)
+		spoil(out + out_len);
+	return r;
 }
 
 uint8_t slp_rollbacks(const uint32_t *ids, size_t ids_len, uint8_t keep, uint8_t *mask, size_t mask_len, uint8_t *scratch, size_t scratch_len)

@@ -30,6 +30,18 @@ static void check_through(const uint8_t *file, size_t len)
 	else printf("sound\n");
 }
 
+/* ---- repair */
+
+static void repair_through(const uint8_t *file, size_t len)
+{
+	slp_repaired need = slp_measure_repair(file, len);
+	if (need.refused) printf("nothing to keep: %u\n", need.refused);
+	uint8_t *mended = malloc(need.bytes + 1);
+	slp_repaired r = slp_repair(file, len, mended, need.bytes);
+	if (!r.refused) printf("length %u, was %u; %zu events kept, %zu dropped\n", r.length, r.said, r.events, r.dropped_events);
+	free(mended);
+}
+
 /* ---- masks */
 
 static void mask_frames(void)
@@ -57,6 +69,9 @@ static void write_and_read(void)
 	check_through(out, w.len);
 	check_through(out, 350);
 	check_through(out, 28);
+	repair_through(out, 28);
+	memset(out + 11, 0, 4);
+	repair_through(out, w.len);
 }
 
 /* ---- final frames only */

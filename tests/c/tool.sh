@@ -303,6 +303,42 @@ run room --final
 run resave --final game.slp never-last.slp
 run final --final game.slp never-last.slp
 
+# ---- repair
+run repair
+run repair a
+run repair a b c
+guarded repair game.slp whole.slp
+cmp game.slp whole.slp && echo 'whole.slp: the same'
+run repair game.slp whole.slp
+run repair game.slp missing/whole.slp
+# any length, with the file's own metadata: too high, over the file's end and within its tail, too low, never filled in, of a byte
+for f in high within overrun tail short; do
+	run repair $f.slp mended.slp
+	cmp game.slp mended.slp && echo 'mended.slp: the same'
+	rm -f mended.slp
+done
+# with a brace that is its own; and with one that is put behind the events, for what follows a tail, a tail that is cut or away, and events that are cut
+run repair brace.slp mended-brace.slp
+head -c $end game.slp >tailless.slp
+for f in high-more high-cut longer tailless unfilled cut unfilled-cut unknown order; do
+	guarded repair --force $f.slp mended.slp
+	run walk mended.slp
+	run check mended.slp
+done
+from high.slp repair - mended-standard.slp
+to mended-standard-too.slp repair high.slp -
+for f in mended-standard mended-standard-too; do cmp game.slp $f.slp && echo "$f.slp: the same"; done
+run repair --force high.slp high.slp
+cmp game.slp high.slp && echo 'high.slp: the same'
+longer_by high.slp 517
+to /dev/full repair high.slp -
+for f in signature table twice newer empty unfilled-table unfilled-head missing; do run repair $f.slp never-mended.slp; done
+head -c 807 game.slp >startless-cut.slp
+run repair startless-cut.slp never-mended.slp
+run repair directory never-mended.slp
+run repair --final game.slp never-mended.slp
+[ -e never-mended.slp ] || echo 'never-mended.slp: not there'
+
 # ---- room
 guarded room --slots=2 --frames=28800 --items=20000
 run room
@@ -560,7 +596,7 @@ echo '$ slp --progress=always walk game.slp'
 "$slp" --progress=always walk game.slp 2>&1 >out | cat -v
 echo
 cat out
-for verb in table resave final; do
+for verb in table resave final repair; do
 	echo "\$ slp --progress=always $verb game.slp"
 	"$slp" --progress=always $verb game.slp $([ $verb = table ] || echo bar-$verb.slp) 2>&1 >out | tr '\r' '\n' | sed -n 's/ .* 100%.*/: to the end/p'
 done
@@ -572,7 +608,7 @@ for columns in 100 60 30 12 1; do
 done
 
 # ---- a terminal takes no replay
-for what in 'demo -' 'resave game.slp -' 'final game.slp -'; do
+for what in 'demo -' 'resave game.slp -' 'final game.slp -' 'repair game.slp -'; do
 	echo "\$ slp $what   (standard output is a terminal)"
 	script -qec "'$slp' $what; echo = \$?" /dev/null </dev/null | tr -d '\r'
 done
@@ -595,10 +631,11 @@ closed() {
 for which in '2>&-' '>&-' '<&-' '<&- >&-' '<&- 2>&-' '>&- 2>&-' '<&- >&- 2>&-'; do closed "$which" closed.slp game.slp resave game.slp closed.slp; done
 for which in '>&-' '<&- >&- 2>&-'; do
 	closed "$which" closed.slp last.slp final game.slp closed.slp
+	closed "$which" closed.slp game.slp repair high.slp closed.slp
 	closed "$which" alone.slp.spx game.slp.spx index alone.slp
 done
 for verb in 'info game.slp' 'picture game.slp' 'walk game.slp' 'check game.slp' 'events game.slp' 'meta game.slp' 'table game.slp' 'table --final game.slp' \
-	'index game.slp' 'find game.slp -64' 'room' 'help' 'version' 'demo -' 'resave game.slp -' 'final game.slp -'; do
+	'index game.slp' 'find game.slp -64' 'room' 'help' 'version' 'demo -' 'resave game.slp -' 'final game.slp -' 'repair high.slp -'; do
 	"$slp" --progress=always $verb >open.out 2>err
 	"$slp" --progress=always $verb >closed.out 2>&- && cmp open.out closed.out && echo "$verb, errors closed: the same"
 done
@@ -665,6 +702,7 @@ calls resave game.slp trace.slp
 calls resave --force game.slp trace.slp
 (export OLD=1; calls resave game.slp trace-old.slp)
 calls final game.slp trace-last.slp
+calls repair high.slp trace-mended.slp
 calls index alone.slp --force
 
 # A folder with a replay to be saved again, and what then stands where: saving VERB [--force], where there is something to be replaced.
@@ -676,6 +714,7 @@ saving() {
 	case $1 in
 	resave) whole=game.slp ;;
 	final) whole=last.slp ;;
+	repair) whole=game.slp ;;
 	index) whole=game.slp.spx words="index ${2:-} saving/in.slp" out=in.slp.spx ;;
 	esac
 	[ -z "${2:-}" ] || cp flag-old.slp saving/$out
@@ -684,7 +723,7 @@ patched flag-old.slp 58 '\002'
 
 # another file gets the name meanwhile
 for old in '' 1; do
-	for verb in resave final index; do
+	for verb in resave final repair index; do
 		saving $verb
 		APPEARS=1 OLD=$old "$points" $words
 		echo "= $?, $(ls -A saving | tr '\n' ' ')$(cat saving/$out)"
@@ -712,7 +751,7 @@ ended() {
 for what in TERM INT HUP KILL EIO EINTR; do ended $what resave; done
 for what in TERM KILL EIO; do ended $what resave --force; done
 for what in TERM KILL EIO; do
-	for verb in final index; do ended $what $verb; done
+	for verb in final repair index; do ended $what $verb; done
 	ended $what index --force
 done
 (export OLD=1; for what in TERM KILL; do ended $what resave; done)

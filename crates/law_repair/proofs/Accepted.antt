@@ -2,14 +2,14 @@
 -- Assumes nothing.
 use Prim.Native.Nat.{ℕ, zero, suc, _+_, _-_, _*_, _/_, _%_, _≤_, _<_}
 use mathlib.Core.Path.{_≡_, refl, sym, ap, subst, _∙_}
-use mathlib.Core.Bool.{Bool, true, false, cond, not, _&&_, _||_}
+use mathlib.Core.Bool.{true, false, cond, not, _||_}
 use mathlib.Core.List.{List, [], _∷_, _++_, map}
-use native.Mathlib.Decide.{decLt, ℕ-discrete}
+use native.Mathlib.Decide.{decLt}
 use native.Mathlib.Omega.{arith}
 use lib.Dec.{eqb, ltb}
 use lib.ListN.{length, getD, take, drop, length-append, List·getD-append}
 use lib.Seq.{take-at, getD-take, length-take-le}
-use Rattle.wire.specs.Wire.{number, part, tabulate}
+use Rattle.wire.specs.Wire.{number, part}
 use Rattle.format.specs.Event.{signature}
 use Rattle.format.specs.File.{Ev}
 use Rattle.format.specs.Refusal.{refuse, lowest}
@@ -20,7 +20,7 @@ use Rattle.head.specs.Numbers.{stepNumbers}
 use Rattle.head.specs.declared.Step.{Step}
 use Rattle.head.specs.declared.Step.the-variants.{Event, Ends, Cut, Refused}
 use Rattle.head.proofs.Filled.{whole-data, zero-data, cut-data}
-use Rattle.head.proofs.Heads.{signed-is, table-there, entries-length}
+use Rattle.head.proofs.Heads.{signed-is, entries-length}
 use Rattle.head.proofs.Steps.{at-end}
 use Rattle.de.specs.Walk.{turn, run, runOf, answerAt, walkOf}
 use Rattle.de.specs.Numbers.{walkNumbers}
@@ -29,7 +29,7 @@ use Rattle.de.proofs.Runs.{run-stop}
 use Rattle.grammar.specs.Productions.{eventsOf, usedIn}
 use Rattle.grammar.specs.Readable.{Readable}
 use Rattle.read_outline.specs.Listed.{listedRight}
-use Rattle.read_judge.specs.Found.{opensWrong, versionSaid, versionOf, earlyRefusal, Found, tooBig}
+use Rattle.read_judge.specs.Found.{opensWrong, versionSaid, earlyRefusal, tooBig}
 use Rattle.read_judge.specs.Inner.{Bytes, WalkDone}
 use Rattle.read_judge.proofs.Walked.{stands, event-stands, comes-to-end, eventHere, spanHere}
 use Rattle.de.specs.declared.Walked.{Walked}
@@ -38,7 +38,6 @@ use Rattle.read_judge.proofs.Steps.{walk-early}
 use Rattle.repair_kept.specs.Kept.{Accepted}
 use Rattle.repair_kept.proofs.Field.{starts-take}
 use Rattle.repair_kept.proofs.Same.{no-way}
-use Rattle.repair_kept.proofs.Accepts.{early-head}
 use Rattle.repair_head.proofs.Laws.{take-take, drop-take, entries-take}
 
 -- ---- event data that is whole
@@ -64,6 +63,11 @@ early-done g z = go (walkOf g) refl
     go : (w : Walked) → walkOf g ≡ w → walkNumbers (walkOf g) .kind ≡ 0
     go (walked.Done events stray whole place) e = ap (λ (x : Walked). walkNumbers x .kind) e
     go (walked.Refused number offset) e = absurd (walk-early g (walkOf g) number offset refl e .0 z)
+
+-- then the first event alone is asked
+pub early-by : (f : List ℕ) → WalkDone f → earlyRefusal f ≡ lowest (refuse 19 (opensWrong (eventsRead f)) ∷ refuse 1 (not (acceptedOf (versionSaid (eventsRead f)))) ∷ [])
+unfolding earlyRefusal lowest
+early-by f k = rw k
 
 -- a walk that is not refused has no refusal where it stops
 step-refused : (stop events place : ℕ) (s : Step) → walkNumbers (answerAt stop events place s) .kind ≡ 0 → stepNumbers s .kind ≡ 3 → ⊥
@@ -219,7 +223,7 @@ module _ (g tail : List ℕ) (p : ℕ) (in-g : p ≤ length g) where
         all-same : Same (length h) (firstPlace (tableOf g)) (runOf g .seen)
         all-same = same-run (length g) (length h) (firstPlace (tableOf g)) (omega arith) first-in (omega (arith, long-h)) ends-g
 
-        events-h : eventsRead h ≡ eventsRead g
+        pub events-h : eventsRead h ≡ eventsRead g
         unfolding eventsRead
         events-h = ap (λ (n : ℕ). map (eventAt h) (run (length h) h n .seen)) (ap firstPlace table-h) ∙ all-same .events
 
@@ -228,10 +232,6 @@ module _ (g tail : List ℕ) (p : ℕ) (in-g : p ≤ length g) where
         done-h =
             ap (λ (s : Step). walkNumbers (answerAt (stopOf h) (length (runOf h .seen)) (runOf h .place) s) .kind)
             (ap (λ (n : ℕ). run (length h) h n .last) (ap firstPlace table-h) ∙ all-same .last)
-
-        early-by : (f : List ℕ) → WalkDone f → earlyRefusal f ≡ lowest (refuse 19 (opensWrong (eventsRead f)) ∷ refuse 1 (not (acceptedOf (versionSaid (eventsRead f)))) ∷ [])
-        unfolding earlyRefusal lowest
-        early-by f k = rw k
 
         pub accepted-h : Accepted h
         accepted-h = record {

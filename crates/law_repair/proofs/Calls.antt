@@ -2,20 +2,20 @@
 -- Assumes nothing.
 use Prim.Native.Nat.{ℕ, _+_, _-_, _≤_, _<_}
 use mathlib.Core.Path.{_≡_, refl, sym, ap, subst, _∙_}
-use mathlib.Core.Bool.{Bool, true, false, cond, not, _&&_}
-use mathlib.Core.List.{List, [], _∷_, _++_, append-assoc}
+use mathlib.Core.Bool.{false, cond, not, _&&_}
+use mathlib.Core.List.{List, [], _∷_, _++_}
 use native.Mathlib.Omega.{arith}
 use lib.Dec.{eqb}
-use lib.ListN.{length, getD, take, drop, length-append}
-use lib.Seq.{take-at, drop-at, length-take-le}
-use Rattle.wire.specs.Wire.{be, part, splice, tabulate}
+use lib.ListN.{length, getD, take, drop}
+use lib.Seq.{take-at, length-take-le}
+use Rattle.wire.specs.Wire.{be, splice, tabulate}
 use Rattle.wire.proofs.Laws.{splice-is, length-splice, length-be, tabulate-at}
 use Rattle.head.specs.Table.{tableOf, firstPlace, spanOf, headRefusal}
 use Rattle.de.specs.Walk.{run}
 use Rattle.de.specs.Cut.{eventsRead, zeroed}
 use Rattle.format.specs.Refusal.{refuse, lowest}
 use Rattle.format.specs.Version.{acceptedOf}
-use Rattle.read_judge.specs.Found.{opensWrong, versionSaid, versionOf, tooBig}
+use Rattle.read_judge.specs.Found.{opensWrong, versionSaid, versionOf}
 use Rattle.read_judge.specs.Inner.{Bytes}
 use Rattle.measure.specs.Game.{Kept, keptRead}
 use Rattle.measure.specs.Read.{measuredIn, openedIn, keptShort, MeasureOutcome, ReadOutcome}
@@ -30,18 +30,18 @@ use Rattle.repair_kept.proofs.Same.{drop-same}
 use Rattle.repair_kept.proofs.Accepts.{early-head}
 use Rattle.check_file.specs.Inner.{isTail}
 use Rattle.repair_judge.specs.Open.{openRefusal}
-use Rattle.repair_call.specs.Outcome.{dropped, keepsTail, tailFor, repairedTo, unrepaired, repairOf, RepairMeasured, RepairOutcome, early, none, short, found}
+use Rattle.repair_call.specs.Outcome.{dropped, keepsTail, tailFor, repairedTo, RepairOutcome, early, none, short, found}
 use Rattle.repair_call.specs.declared.Repaired.{Repaired}
 use Rattle.repair_call.proofs.Laws.{open-head}
-use Rattle.law_repair.proofs.Accepted.{accepted-h}
+use Rattle.law_repair.proofs.Accepted.{events-h, accepted-h}
 
 -- ---- what is given is accepted
 
 module _ (f : List ℕ) (bytes : Bytes f) where
-  pub beginning-accepted : openRefusal f ≡ 0 → (p : ℕ) → ReplayUpTo f p → Accepted (repairedTo f p)
-  unfolding repairedTo
-  beginning-accepted o p b =
-      let head = open-head f o in
+  -- whatever stands behind a beginning, and its events are the same
+  pub beginning-any : headRefusal (zeroed f) ≡ 0 → (p : ℕ) → ReplayUpTo f p → (tail : List ℕ)
+      → Accepted (take p (endingAt f p) ++ tail) × (eventsRead (take p (endingAt f p) ++ tail) ≡ eventsRead (endingAt f p))
+  beginning-any head p b tail =
       let long = long-enough f head in
       let g = endingAt f p in
       let z = early-head g (b .accepted .early) in
@@ -49,8 +49,17 @@ module _ (f : List ℕ) (bytes : Bytes f) where
       let (x, y) = first-within f head in
       let stop = ending-stop f long p (b .short) (omega arith) (b .within) in
       let table = ap firstPlace (ending-table f long p ∙ sym (zero-table f long)) in
-      accepted-h g (tailFor f p) p (omega (arith, ending-length f long p, b .within)) z (b .accepted .found .whole) stop (omega arith)
-      (tabulate 256 (λ c. spanOf c (tableOf g))) (λ c l. tabulate-at 0 256 (λ c. spanOf c (tableOf g)) c l) (ending-bytes f long p bytes) (b .accepted)
+      let in-g : p ≤ length g = omega (arith, ending-length f long p, b .within) in
+      let starts : firstPlace (tableOf g) ≤ p = omega arith in
+      let spans = tabulate 256 (λ c. spanOf c (tableOf g)) in
+      let index : (c : ℕ) → c < 256 → getD spans c 0 ≡ spanOf c (tableOf g) = λ c l. tabulate-at 0 256 (λ c. spanOf c (tableOf g)) c l in
+      let own = ending-bytes f long p bytes in
+      let whole = b .accepted .found .whole in
+      (accepted-h g tail p in-g z whole stop starts spans index own (b .accepted), events-h g tail p in-g z whole stop starts spans index own (b .accepted))
+
+  pub beginning-accepted : openRefusal f ≡ 0 → (p : ℕ) → ReplayUpTo f p → Accepted (repairedTo f p)
+  unfolding repairedTo
+  beginning-accepted o p b = beginning-any (open-head f o) p b (tailFor f p) .0
 
   -- the bytes that the call left
   pub given-accepted : (given : List ℕ) (r : Repaired) (left : List ℕ) → RepairOutcome f given r left → r .refused ≡ 0 → Accepted (take (r .bytes) left)
@@ -104,20 +113,29 @@ module _ (f w : List ℕ) (long : 15 ≤ length f) (four : length w ≡ 4) where
   unfolding openRefusal
   open-same = λ i. lowest (refuse (headRefusal (zeroed-same i)) (not (eqb (headRefusal (zeroed-same i)) 0)) ∷ refuse 19 (opensWrong (eventsRead (zeroed-same i))) ∷ refuse 1 (not (acceptedOf (versionSaid (eventsRead (zeroed-same i))))) ∷ [])
 
-  begins-same : (p : ℕ) → ReplayUpTo other p → ReplayUpTo f p
+  pub begins-same : (p : ℕ) → ReplayUpTo other p → ReplayUpTo f p
   begins-same p b = record { within = omega (arith, b .within, length-same); short = b .short; accepted = subst Accepted (ending-same p) (b .accepted) }
 
-  begins-too : (p : ℕ) → ReplayUpTo f p → ReplayUpTo other p
+  pub begins-too : (p : ℕ) → ReplayUpTo f p → ReplayUpTo other p
   begins-too p b = record { within = omega (arith, b .within, length-same); short = b .short; accepted = subst Accepted (sym (ending-same p)) (b .accepted) }
 
   pub longest-same : (p : ℕ) → Longest f p → Longest other p
   longest-same p l = record { begins = begins-too p (l .begins); most = λ q b. l .most q (begins-same q b) }
 
+  pub dropped-same : (p : ℕ) → dropped other p ≡ dropped f p
+  unfolding dropped
+  dropped-same p = λ i. length (run (length-same i) (zeroed-same i) p .seen)
+
+  pub behind-same : (p : ℕ) → 15 ≤ p → drop p other ≡ drop p f
+  behind-same p h = sym (drop-same f other (same-tail f w long four) p h)
+
+  pub keeps-same : (p : ℕ) → 15 ≤ p → keepsTail other p ≡ keepsTail f p
+  unfolding keepsTail
+  keeps-same p h = λ i. eqb (dropped-same p i) 0 && isTail (behind-same p h i)
+
   tail-same : (p : ℕ) → 15 ≤ p → tailFor other p ≡ tailFor f p
-  unfolding tailFor keepsTail dropped
-  tail-same p h =
-      let d = sym (drop-same f other (same-tail f w long four) p h) in
-      λ i. cond (eqb (length (run (length-same i) (zeroed-same i) p .seen)) 0 && isTail (d i)) (d i) (0x7d ∷ [])
+  unfolding tailFor
+  tail-same p h = λ i. cond (keeps-same p h i) (behind-same p h i) (0x7d ∷ [])
 
   pub repaired-same : (p : ℕ) → 15 ≤ p → repairedTo other p ≡ repairedTo f p
   unfolding repairedTo

@@ -2,16 +2,19 @@
 -- Assumes nothing.
 use Prim.Native.Nat.{ℕ, zero, suc, _+_, _-_, _^_, _≤_, _<_}
 use mathlib.Core.Path.{_≡_, refl, sym, ap, subst, _∙_}
-use mathlib.Core.Bool.{Bool, true, false, cond, _&&_}
-use mathlib.Core.List.{List, [], _∷_, _++_}
+use mathlib.Core.Bool.{true, false, cond, not, _&&_}
+use mathlib.Core.List.{List, [], _∷_, _++_, map}
 use native.Mathlib.Decide.{decLt}
 use native.Mathlib.Omega.{arith}
-use borrow.Author.Tests.{eq-eqb}
-use lib.Dec.{eqb, lit<}
+use lib.Dec.{eqb}
 use lib.ListN.{length, getD, take, drop, take-append-drop}
 use lib.Seq.{drop-drop}
-use Rattle.wire.specs.Wire.{be, number, part, splice, tabulate}
-use Rattle.wire.proofs.Laws.{tabulate-at, splice-is, length-be}
+use Rattle.wire.specs.Wire.{be, part, splice, tabulate}
+use Rattle.wire.proofs.Laws.{tabulate-at, splice-is}
+use Rattle.format.specs.File.{Ev}
+use Rattle.format.specs.Refusal.{refuse, lowest}
+use Rattle.format.specs.Version.{acceptedOf}
+use Rattle.format.proofs.Refusals.{passed}
 use Rattle.head.specs.Table.{declared, stopOf, allPresent, tableOf, firstPlace, spanOf, headRefusal}
 use Rattle.head.specs.Step.{stepOf}
 use Rattle.head.specs.Numbers.{stepNumbers}
@@ -19,20 +22,21 @@ use Rattle.head.specs.declared.Step.{Step}
 use Rattle.head.specs.declared.Step.the-variants.{Event, Ends, Cut, Refused}
 use Rattle.head.proofs.Filled.{stop-within}
 use Rattle.de.specs.Walk.{turn, run, runOf}
-use Rattle.de.specs.Cut.{zeroed}
+use Rattle.de.specs.Cut.{eventAt, eventsRead, zeroed}
 use Rattle.read_judge.specs.Inner.{Bytes}
 use Rattle.read_judge.proofs.Walked.{stands, event-stands, comes-to-end, eventHere, spanHere}
 use Rattle.record.proofs.Numbers.{be-number, number-small}
 use Rattle.map_reader.proofs.Places.{part-bytes}
 use Rattle.read_outline.proofs.Laws.{length-part}
-use Rattle.read_judge.specs.Found.{earlyRefusal}
+use Rattle.read_judge.specs.Found.{opensWrong, versionSaid, earlyRefusal}
 use Rattle.repair_kept.specs.Kept.{endingAt, Accepted, ReplayUpTo, Longest}
-use Rattle.repair_kept.proofs.Same.{byte-same}
-use Rattle.repair_kept.proofs.Field.{long-enough, zeroed-accepted, zero-table, zero-tail, zero-stop, ending-table, ending-tail, ending-bytes, ending-stop, ending-starts}
+use Rattle.repair_kept.proofs.Same.{no-way, byte-same, part-same}
+use Rattle.repair_kept.proofs.Field.{long-enough, zeroed-accepted, zero-table, zero-tail, zero-length, zero-stop, ending-table, ending-tail, ending-bytes, ending-stop, ending-starts}
 use Rattle.repair_kept.proofs.Accepts.{early-head}
+use Rattle.repair_judge.specs.Open.{openRefusal}
 use Rattle.repair_call.specs.Outcome.{dropped, keepsTail, tailFor, repairedTo}
 use Rattle.check_file.specs.Inner.{isTail}
-use Rattle.law_repair.proofs.Accepted.{whole-is, early-done, not-refused}
+use Rattle.law_repair.proofs.Accepted.{whole-is, early-done, early-by, not-refused}
 use Rattle.law_repair.proofs.Calls.{longest-same, repaired-same}
 
 no-end : {A : Type 0} (s : Step) → (stepNumbers s .kind ≡ 1 → ⊥) → s ≡ Ends → A
@@ -101,6 +105,13 @@ one-more : (n : ℕ) (f : List ℕ) (p code at payload len next : ℕ) → stepO
 unfolding run
 one-more n f p code at payload len next e q = omega (arith, ap (λ (s : Step). length (turn s (run n f) p .seen)) e)
 
+-- an event that stands at a place is the first of those from there
+one-first : (f : List ℕ) (n p : ℕ) → length f ≡ suc n → (code at payload len next : ℕ) → stepOf f p ≡ Event code at payload len next
+    → map (eventAt f) (run (length f) f p .seen) ≡ record { code = code; payload = part f payload len } ∷ map (eventAt f) (run n f next .seen)
+unfolding run
+one-first f n p many code at payload len next e =
+    ap (λ (k : ℕ). map (eventAt f) (run k f p .seen)) many ∙ ap (λ (s : Step). map (eventAt f) (turn s (run n f) p .seen)) e
+
 zero-bytes′ : (f : List ℕ) → 15 ≤ length f → Bytes f → Bytes (zeroed f)
 unfolding zeroed endingAt be
 zero-bytes′ f l b = ending-bytes f l 15 b
@@ -118,7 +129,7 @@ module _ (f : List ℕ) (bytes : Bytes f) (x : Accepted f) where
   long : 15 ≤ length f
   long = long-enough f zero-head
 
-  filled : (declared f ≡ 0 → ⊥) × (p ≡ 15 + declared f)
+  pub filled : (declared f ≡ 0 → ⊥) × (p ≡ 15 + declared f)
   filled = whole-is f (x .found .whole)
 
   within : p ≤ length f
@@ -155,10 +166,69 @@ module _ (f : List ℕ) (bytes : Bytes f) (x : Accepted f) where
   comes : (g : List ℕ) (h : headRefusal g ≡ 0) (b : Bytes g) (e : tableOf g ≡ tableOf f) → firstPlace (tableOf g) ≤ stopOf g → allPresent g ≡ true → earlyRefusal g ≡ 0 → runOf g .last ≡ Ends
   comes g h b e l w z = comes-to-end g spans h b (index g e) l w (not-refused g (early-done g z))
 
-  starts : firstPlace (tableOf f) ≤ p
+  pub starts : firstPlace (tableOf f) ≤ p
   starts =
       let z = ending-starts f zero-head p low within (ap headRefusal ending-itself ∙ head) (ap allPresent ending-itself ∙ x .found .whole) in
       omega (arith, ap firstPlace (zero-table f long))
+
+  -- its first event stands there too where the length is not looked at
+  abbrev z : List ℕ
+  z = zeroed f
+
+  abbrev first : ℕ
+  first = firstPlace (tableOf f)
+
+  abbrev span : ℕ
+  span = spanOf (getD f first 0) (tableOf f)
+
+  zero-table-is : tableOf z ≡ tableOf f
+  zero-table-is = zero-table f long
+
+  zero-bytes : Bytes z
+  zero-bytes = zero-bytes′ f long bytes
+
+  judged : lowest (refuse 19 (opensWrong (eventsRead f)) ∷ refuse 1 (not (acceptedOf (versionSaid (eventsRead f)))) ∷ []) ≡ 0
+  judged = sym (early-by f (early-done f (x .early))) ∙ x .early
+
+  whole-first : (span ≡ 0 → ⊥) × (first + span ≤ p)
+  unfolding eventsRead opensWrong run
+  whole-first =
+      go (length f) refl (passed 18 _ _ judged .0)
+    where
+      unread : {A : Type 0} → opensWrong [] ≡ false → A
+      unread e = no-way (sym e)
+
+      go : (n : ℕ) → length f ≡ n → opensWrong (map (eventAt f) (run n f first .seen)) ≡ false → (span ≡ 0 → ⊥) × (first + span ≤ p)
+      go zero e = λ q. absurd (omega (arith, long))
+      go (suc n) e =
+          stands f spans head bytes (index f refl) (λ s. opensWrong (map (eventAt f) (turn s (run n f) first .seen)) ≡ false → (span ≡ 0 → ⊥) × (first + span ≤ p)) first (omega arith) starts (λ k. unread) (λ a b q. (a, b)) (λ k o. unread) (λ k. unread)
+
+  same-first : (P : List Ev → Type 0) → ((e : Ev) (es fs : List Ev) → P (e ∷ es) → P (e ∷ fs)) → P (eventsRead f) → P (eventsRead z)
+  unfolding eventsRead
+  same-first P same q =
+      let n = length f - 1 in
+      let some : length f ≡ suc n = omega (arith, long) in
+      let many : length z ≡ suc n = zero-length f long ∙ some in
+      let (a, b) = whole-first in
+      let low : 15 ≤ first = omega arith in
+      let byte = byte-same f z (zero-tail f long) first low in
+      let place : firstPlace (tableOf z) ≡ first = ap firstPlace zero-table-is in
+      let span-is : spanOf (getD z first 0) (tableOf z) ≡ span = (λ i. spanOf (sym byte i) (zero-table-is i)) in
+      let at-f = event-stands f spans head bytes (index f refl) first (omega arith) a b in
+      let at-z = event-stands z spans zero-head zero-bytes (index z zero-table-is) first (omega (arith, place)) (λ k. a (sym span-is ∙ k)) (omega (arith, span-is, zero-stop f long, within)) in
+      let event : _≡_ {A = Ev} (record { code = getD f first 0; payload = part f (first + 1) (span - 1) }) (record { code = getD z first 0; payload = part z (first + 1) (spanOf (getD z first 0) (tableOf z) - 1) }) =
+      λ i. record { code = byte i; payload = (part-same f z (zero-tail f long) (first + 1) (span - 1) (omega arith) ∙ ap (λ (k : ℕ). part z (first + 1) (k - 1)) (sym span-is)) i } in
+      subst P (sym (ap (λ (k : ℕ). map (eventAt z) (run (length z) z k .seen)) place ∙ one-first z n first many _ _ _ _ _ at-z))
+      (same _ _ _ (subst (λ (e : Ev). P (e ∷ map (eventAt f) (run n f (first + span) .seen))) event (subst P (one-first f n first some _ _ _ _ _ at-f) q)))
+
+  pub open-itself : openRefusal f ≡ 0
+  unfolding openRefusal lowest opensWrong versionSaid
+  open-itself =
+      rw zero-head
+      (same-first (λ es. lowest (refuse 19 (opensWrong es) ∷ refuse 1 (not (acceptedOf (versionSaid es))) ∷ []) ≡ 0) alike judged)
+    where
+      alike : (e : Ev) (es fs : List Ev) → lowest (refuse 19 (opensWrong (e ∷ es)) ∷ refuse 1 (not (acceptedOf (versionSaid (e ∷ es)))) ∷ []) ≡ 0 → lowest (refuse 19 (opensWrong (e ∷ fs)) ∷ refuse 1 (not (acceptedOf (versionSaid (e ∷ fs)))) ∷ []) ≡ 0
+      alike e es fs q = q
 
   module _ (nothing : dropped f p ≡ 0) where
     -- an event behind its own would be dropped
@@ -201,11 +271,15 @@ module _ (f : List ℕ) (bytes : Bytes f) (x : Accepted f) where
           | no n ↦ omega arith
         ]
 
+    pub keeps-own : isTail (drop p f) ≡ true → keepsTail f p ≡ true
+    unfolding keepsTail
+    keeps-own t = λ i. eqb (nothing i) 0 && t i
+
     -- with a proper tail it is given as it is, whatever four bytes stand in its length field
     pub repaired-itself : isTail (drop p f) ≡ true → repairedTo f p ≡ f
-    unfolding repairedTo tailFor keepsTail
+    unfolding repairedTo tailFor
     repaired-itself t =
-        (λ i. take p (ending-itself i) ++ cond (eqb (nothing i) 0 && t i) (drop p f) (0x7d ∷ [])) ∙ take-append-drop p f
+        (λ i. take p (ending-itself i) ++ cond (keeps-own t i) (drop p f) (0x7d ∷ [])) ∙ take-append-drop p f
 
     pub any-length : isTail (drop p f) ≡ true → (w : List ℕ) → length w ≡ 4 → Longest (splice f 11 w) p × (repairedTo (splice f 11 w) p ≡ f)
     any-length t w n = (longest-same f w long n p longest-itself, repaired-same f w long n p (omega (arith, filled .1)) ∙ repaired-itself t)

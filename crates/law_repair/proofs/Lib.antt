@@ -1,4 +1,11 @@
 pub mod Accepted
 pub mod Calls
+pub mod Cases
+pub mod Closed
+pub mod Coded
+pub mod Cuts
+pub mod Fronts
+pub mod Frames
+pub mod Games
 pub mod Itself
 pub mod Only

@@ -5,6 +5,7 @@ pub mod live_calls;
 pub mod map_calls;
 pub mod masks;
 pub mod read_calls;
+pub mod repair;
 pub mod room_calls;
 pub mod row_calls;
 pub mod rows_calls;

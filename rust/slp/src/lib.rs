@@ -49,6 +49,7 @@ mod check;
 mod index;
 mod live;
 mod read;
+mod repair;
 
 mod views;
 
@@ -66,6 +67,7 @@ pub use plan::Plan;
 pub use read::{measure, read, read_into, Measured, Replay, Space};
 pub use reader::{first_place, step_at, walk, Step, Walked};
 pub use refusals::{refusal_words, Refused};
+pub use repair::{measure_repair, repair, Repaired, RepairedTail};
 pub use room::{room, MAX_ROOM};
 pub use stores::Stores;
 pub use views::Player;

@@ -56,6 +56,21 @@ pub struct Checked {
 }
 
 #[repr(C)]
+pub struct Repaired {
+	pub refused: u8,
+	pub tail: u8,
+	pub said: u32,
+	pub length: u32,
+	pub bytes: usize,
+	pub events: usize,
+	pub event_bytes: usize,
+	pub dropped_events: usize,
+	pub dropped_bytes: usize,
+}
+
+const _: () = assert!(std::mem::size_of::<Repaired>() == 56);
+
+#[repr(C)]
 pub struct Written {
 	pub refused: u8,
 	pub len: usize,
@@ -172,6 +187,10 @@ extern "C" {
 	pub fn slp_walk(file: *const u8, file_len: usize) -> Walked;
 
 	pub fn slp_check(file: *const u8, file_len: usize) -> Checked;
+
+	pub fn slp_measure_repair(file: *const u8, file_len: usize) -> Repaired;
+
+	pub fn slp_repair(file: *const u8, file_len: usize, out: *mut u8, out_len: usize) -> Repaired;
 
 	pub fn slp_measure(file: *const u8, file_len: usize) -> Measured;
 

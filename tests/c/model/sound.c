@@ -239,7 +239,7 @@ static int good_body(const uint8_t *body, size_t len)
 	return refused == 0;
 }
 
-static int proper_tail(const uint8_t *tail, size_t len)
+int model_proper_tail(const uint8_t *tail, size_t len)
 {
 	static const char key[] = "U\010metadata{";
 	if (len == 1)
@@ -257,7 +257,7 @@ static unsigned judge(descent *d, const slp_walked *w)
 		return 1;
 	if (!w->whole || !sound_events(d))
 		return 19;
-	return proper_tail(d->file + w->place, d->len - w->place) ? 0 : 23;
+	return model_proper_tail(d->file + w->place, d->len - w->place) ? 0 : 23;
 }
 
 slp_checked model_check(const uint8_t *file, size_t len)

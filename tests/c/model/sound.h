@@ -5,5 +5,7 @@
 #include "slp.h"
 
 slp_checked model_check(const uint8_t *file, size_t len);
+/* Whether this is what may stand behind the event data: a closing brace, or metadata that is a map's. */
+int model_proper_tail(const uint8_t *tail, size_t len);
 
 #endif
