@@ -33,7 +33,7 @@ PROGRAMS := $(basename $(notdir $(wildcard tests/c/programs/*.c tests/c/programs
 SHARED_OBJECTS := $(patsubst %.c,target/c/%.o,$(wildcard tests/c/shared/*.c tests/c/model/*.c))
 EXAMPLES := $(basename $(notdir $(wildcard examples/*.c)))
 # Programs that must fail over a library with a fault.
-FAULTED := cases refusals fuzz rows row_runs eights runs final live layout names map room apart read read_refusals check repair index stack
+FAULTED := cases refusals fuzz rows row_runs eights runs final live layout names map room apart read read_refusals newer check repair index stack
 TESTS := $(PROGRAMS:%=target/c/bin/%) target/c/bin/header_examples target/c/bin/foreign target/c/bin/stack target/c/bin/dying.so target/c/bin/live_runs target/c/bin/slp_points target/c/bin/four_players target/c/bin/listed $(EXAMPLES:%=target/c/examples/%) $(FAULTED:%=target/c/faults/%)
 
 .PHONY: all lib tests test test-rust python test-python test-documents man dist package test-package examples install uninstall clean help always

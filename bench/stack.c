@@ -151,7 +151,7 @@ static const struct {
 	{ "slp_measure_repair", call_measure_repair, 3200 },
 	{ "slp_repair", call_repair, 3300 },
 	{ "slp_measure", call_measure, 4600 },
-	{ "slp_read", call_read, 9700 },
+	{ "slp_read", call_read, 10300 },
 	{ "slp_write_index", call_write_index, 2800 },
 	{ "slp_accepts_index", call_accepts_index, 2800 },
 	{ "slp_find_frame", call_find_frame, 256 },

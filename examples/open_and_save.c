@@ -31,7 +31,8 @@ static void show(const slp_opened *o)
 	printf("version %u.%u.%u, frames %zu, items %zu, ports", f->version.major, f->version.minor, f->version.patch, f->counts.frames, f->counts.items);
 	for (size_t p = 0; p < f->port_count; p++)
 		printf(" %u", f->ports[p].port);
-	printf("\n");
+	/* then a newer recorder wrote it, and slp_save refuses it */
+	printf("%s\n", o->partly ? ", partly read" : "");
 }
 
 /* The folder of a file on the disk, with the file's name. The path is cut at its last slash. */

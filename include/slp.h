@@ -25,7 +25,7 @@ extern "C" {
 
 enum {
 	SLP_OK = 0,
-	/* version above 3.18.0 */
+	/* version above 3.18.0; columns back: of major number 4 or more */
 	SLP_VERSION_TOO_NEW = 1,
 	/* a count exceeds its maximum: frames 1,048,576; items 4,194,304; rows of each stage family 1,048,576; padded codes 16,777,216
 	 * bytes; metadata 65,535; length field: event data over 4,294,967,295 bytes; index: also an offset over 32 bits */
@@ -68,9 +68,10 @@ enum {
 	 * table's end or past the event data present */
 	SLP_BAD_PLACE = 17,
 	/* columns back: the first event is no GameStart of at least 4 bytes; or, judged after 1, the event data is cut, an event is out of the
-	 * per-frame order or has a payload of the wrong size, ports do not ascend, a Pre has no Post or a Post no Pre, a record has another frame's
-	 * id, neighbouring frames before 2.2 have one id, a code block is wrong, a port, follower flag or seat type is out of range, there are over
-	 * two ends or unlike ones, or an initiator is outside -1..3; check: the same place in its order, by its own rules */
+	 * per-frame order or has a payload of the wrong size (above 3.18.0: one that is too short), ports do not ascend, a Pre has no Post or a Post
+	 * no Pre, a record has another frame's id, neighbouring frames before 2.2 have one id, a code block is wrong, a port, follower flag or seat
+	 * type is out of range, there are over two ends or unlike ones, or an initiator is outside -1..3; check: the same place in its order, by its
+	 * own rules */
 	SLP_BAD_EVENTS = 19,
 	/* metadata map: a map more than 8 deep below the body's own */
 	SLP_TOO_DEEP = 20,
@@ -233,8 +234,8 @@ slp_repaired slp_measure_repair(const uint8_t *file, size_t file_len);
  * what stands there is `7d` alone or the metadata's key, a body that slp_read_map reads given room for its entries, and `7d 7d`; else `7d`. Bytes of `out`
  * past it stay. Refusals as slp_measure_repair, and last 12 for an output that is too short.
  *
- * slp_read accepts what is given, always. A file that it accepts, with such a tail and no event behind its own, is repaired to itself, whatever the four
- * bytes of its length field are.
+ * slp_read accepts what is given, always. A file up to 3.18.0 that it accepts, with such a tail and no event behind its own, is repaired to itself, whatever
+ * the four bytes of its length field are.
  *
  *     slp_repaired r = slp_repair(file, len, mended, need.bytes);
  *     if (!r.refused) printf("length %u, was %u; %zu events kept, %zu dropped\n", r.length, r.said, r.events, r.dropped_events);
@@ -693,6 +694,14 @@ static inline slp_written slp_write_final_game(uint8_t *out, size_t out_len, uin
  * store must be, slp_read fills them. What was written comes back: the cells of present rows, zeros for absent ones; presence bits for every slot,
  * never in the empty form, spare bits 0; a port column for each port whose leader or follower is ever there, ports ascending. Before 2.2, where there is
  * no FrameStart, a frame begins where the id changes.
+ *
+ * A replay of a newer recorder, above 3.18.0 with major number 3, is partly read: `partly` is 1, and what 3.18 knows is given. Payloads may be longer than
+ * 3.18's, GameStart's and GameEnd's too, and what 3.18 knows of them is read from their front; two ends are alike where these bytes are. Events whose codes
+ * the payload table lists and 3.18 does not know are passed over, wherever they stand after GameStart. All other rules are 3.18's. The game has the file's
+ * own version, with the columns of 3.18; every call that writes, checks, repairs or gives rows refuses that version with 1, so that saving cannot lose what
+ * was not read. Who wants rows of it says 3.18.0 in its frames:
+ *
+ *     if (o.partly) o.game.frames.version = (slp_version){ 3, 18, 0 };
  */
 
 /* What stands behind the event data of a replay: one brace, the metadata, or something else, which is left alone and cannot be saved again. */
@@ -714,6 +723,7 @@ typedef struct {
 
 typedef struct {
 	uint8_t refused;        /* 0, or 14 to 17, 19, 1 or 2; then all that follows is 0, but for the offset */
+	uint8_t partly;         /* 1 if the version is above 3.18.0, so that only what 3.18 knows is read; else 0 */
 	size_t offset;          /* the file offset that 14 to 17 name; else 0 */
 	slp_frames frames;      /* as slp_read gives them */
 	uint8_t codes_given;    /* 1 if the version is 3.3 or newer and the payload table lists GeckoCodes, else 0 */
@@ -733,6 +743,7 @@ slp_measured slp_measure(const uint8_t *file, size_t file_len);
 
 typedef struct {
 	uint8_t refused;    /* as slp_measure, and last 12 for a store that is too short */
+	uint8_t partly;     /* as slp_measure */
 	size_t offset;      /* as slp_measure */
 	slp_game game;      /* all 0 on a refusal */
 	slp_places places;

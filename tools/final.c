@@ -37,8 +37,11 @@ int write_final_frames(const request *q)
 	replay r;
 	if (open_replay(q->files[0], q->progress, &r) != WELL)
 		return FAILED;
-	warn_of_tail(input_name(q->files[0]), &r);
-	int status = write_kept(q, &r);
+	int status = rewritable(input_name(q->files[0]), &r);
+	if (status == WELL) {
+		warn_of_tail(input_name(q->files[0]), &r);
+		status = write_kept(q, &r);
+	}
 	close_replay(&r);
 	return status;
 }

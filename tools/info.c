@@ -194,6 +194,7 @@ static void json_game(json *j, const game *g)
 	char version[16];
 	snprintf(version, sizeof version, "%u.%u.%u", s->frames.version.major, s->frames.version.minor, s->frames.version.patch);
 	json_words(j, "version", version);
+	json_mark(j, "partly", g->replay->opened.partly);
 	if (date.len)
 		json_text(j, "start_at", date.p, date.len);
 	else

@@ -98,8 +98,16 @@ outcome open_part(const char *path, replay *r, int *wrong)
 	return IS_CUT;
 }
 
+void complain_partly(const char *name, const replay *r)
+{
+	slp_version v = r->opened.game.frames.version;
+	if (r->opened.partly)
+		complain(name, "written by version %u.%u.%u: only what 3.18 knows is shown", v.major, v.minor, v.patch);
+}
+
 void complain_part(const char *name, const replay *r, outcome how)
 {
+	complain_partly(name, r);
 	if (how == IS_REFUSED)
 		complain_unread(name, &r->file, r->opened.refused, r->opened.offset);
 	if (how != IS_CUT)

@@ -19,6 +19,17 @@ static void report(const char *in, const char *out, const content *was, const ui
 	fputc('\n', to);
 }
 
+/* What was not read of a newer recorder's file would be lost. */
+int rewritable(const char *name, const replay *r)
+{
+	slp_version v = r->opened.game.frames.version;
+	if (!r->opened.partly)
+		return WELL;
+	complain(name, "refused %u: written by version %u.%u.%u, which is not written: what 3.18 does not know would be lost", SLP_VERSION_TOO_NEW, v.major, v.minor,
+	         v.patch);
+	return FAILED;
+}
+
 /* A file's tail that is neither a brace nor metadata is in no column, and so it is not written. */
 void warn_of_tail(const char *name, const replay *r)
 {
@@ -69,8 +80,11 @@ int resave(const request *q)
 	replay r;
 	if (open_replay(q->files[0], q->progress, &r) != WELL)
 		return FAILED;
-	warn_of_tail(input_name(q->files[0]), &r);
-	int status = write_again(q, &r);
+	int status = rewritable(input_name(q->files[0]), &r);
+	if (status == WELL) {
+		warn_of_tail(input_name(q->files[0]), &r);
+		status = write_again(q, &r);
+	}
 	close_replay(&r);
 	return status;
 }

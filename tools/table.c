@@ -386,6 +386,7 @@ int show_table(const request *q)
 	const char *name = input_name(q->files[0]);
 	if (open_replay(q->files[0], q->progress, &t.replay) != WELL)
 		return FAILED;
+	complain_partly(name, &t.replay);
 	int status = choose_columns(name, &t, q);
 	if (status == WELL)
 		status = mask_frames(name, &t);

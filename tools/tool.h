@@ -186,8 +186,10 @@ void close_replay(replay *r);
 /* The same, without words and without a bar; of a replay that is cut, the front of it that can be read, as if it ended there: where not even its start
  * can be, IS_CUT with `cells` NULL. IS_REFUSED with r->opened.refused and its offset; IS_UNREAD with an errno. Closed in any case. */
 outcome open_part(const char *path, replay *r, int *wrong);
-/* In words, after what was printed of it: that it was refused, or is cut. */
+/* In words, after what was printed of it: that it was refused, is cut, or is partly read. */
 void complain_part(const char *name, const replay *r, outcome how);
+/* That a newer recorder wrote it, and which, where only a part of it is read. */
+void complain_partly(const char *name, const replay *r);
 /* The mask of the frames that a later one of the same id replaced, to be freed. NULL where there is no memory, and where the number that is given
  * refuses it: ids that no game has are out of slp_rollbacks's range. */
 unsigned find_replaced(const replay *r, uint8_t **mask);
@@ -205,6 +207,8 @@ int work_out_index(const char *name, const content *file, content *index);
 
 /* ---- resave.c: what writes a replay's columns again */
 
+/* Whether a replay may be written again: WELL, or FAILED after words on standard error, where only a part of it is read. */
+int rewritable(const char *name, const replay *r);
 /* That a tail is left out, where it is. */
 void warn_of_tail(const char *name, const replay *r);
 /* How many bytes no file of these columns exceeds. */

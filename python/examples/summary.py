@@ -32,7 +32,7 @@ def summary(path: str) -> dict[str, Any]:
     except slp.Refused as refused:
         return {"file": path, "refused": refused.number, "place": refused.place, "words": refused.words}
     version = ".".join(map(str, game.version))
-    return {"file": path, "version": version, "frames": int(game.final.sum()), "stage": game.start.stage, "players": players}
+    return {"file": path, "version": version, "partly": game.partly, "frames": int(game.final.sum()), "stage": game.start.stage, "players": players}
 
 
 def into(folder: Path, path: str) -> None:

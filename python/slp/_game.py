@@ -130,7 +130,7 @@ class Game:
     """A replay with its columns, as `read` gives it.
 
     Arrays share their memory with the game, so that what is put into them is saved with it. `raw` is the struct slp_game of slp.h, for what has no
-    array: what is put there is saved too.
+    array: what is put there is saved too. Where `partly` is True, a newer recorder wrote the replay: only what 3.18 knows was read, and saving is refused 1.
 
     >>> game = slp.read("demo.slp")
     >>> game
@@ -143,10 +143,11 @@ class Game:
     15.0
     """
 
-    def __init__(self, raw: Any, stores: dict[str, Array], block: bytes, body: bytes) -> None:
+    def __init__(self, raw: Any, stores: dict[str, Array], block: bytes, body: bytes, partly: bool = False) -> None:
         self.raw = raw
         self.stores = stores
         self._block, self._body = block, body
+        self.partly = partly
         f = raw.frames
         self.version: tuple[int, int, int] = (f.version.major, f.version.minor, f.version.patch)
         self.ids: npt.NDArray[np.int32] = stores["ids"].view(np.int32)
@@ -157,7 +158,8 @@ class Game:
         return int(self.raw.frames.counts.frames)
 
     def __repr__(self) -> str:
-        return f"<Game: version {'.'.join(map(str, self.version))}, {len(self)} frames, {len(self.players)} players>"
+        partly = ", partly read" if self.partly else ""
+        return f"<Game: version {'.'.join(map(str, self.version))}{partly}, {len(self)} frames, {len(self.players)} players>"
 
     def _family(self, store: str, family: int, rows: int) -> Array:
         return self.stores[store].reshape(call("slp_columns", self.raw.frames.version, family), rows)
@@ -323,7 +325,8 @@ class Game:
 
 
 def read(file: File) -> Game:
-    """A replay with its columns: of a file that is named, or of bytes. What cannot be read is `Refused`.
+    """A replay with its columns: of a file that is named, or of bytes. What cannot be read is `Refused`. Of a newer recorder's file, above 3.18.0 and below 4,
+    what 3.18 knows is read: then `partly` is True.
 
     >>> slp.read(b"")
     Traceback (most recent call last):
@@ -339,4 +342,5 @@ def read(file: File) -> Game:
     accepted(o.refused, o.offset)
     p = o.places
     block = data[p.block_at : p.block_at + p.block_len].tobytes()
-    return Game(o.game, stores, block, data[p.metadata_at : p.metadata_at + p.metadata_len].tobytes())
+    body = data[p.metadata_at : p.metadata_at + p.metadata_len].tobytes()
+    return Game(o.game, stores, block, body, o.partly != 0)

@@ -15,6 +15,10 @@ rm -f "$bin/again.slp"
 "$bin/open_and_save" "$bin/game.slp" "$bin/again.slp"
 cmp "$bin/game.slp" "$bin/again.slp"
 "$bin/open_and_save" "$bin/cut.slp" "$bin/again.slp" || echo 'not saved'
+# version 3.19.0
+cp "$bin/game.slp" "$bin/newer.slp"
+printf '\023' | dd of="$bin/newer.slp" bs=1 seek=$((18 + $(od -An -j16 -N1 -tu1 "$bin/newer.slp"))) conv=notrunc 2>/dev/null
+"$bin/open_and_save" "$bin/newer.slp" "$bin/never.slp" || echo 'not saved'
 "$bin/jump" "$bin/game.slp" -123
 "$bin/jump" "$bin/game.slp" 0
 "$bin/jump" "$bin/cut.slp" -123

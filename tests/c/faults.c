@@ -711,9 +711,26 @@ slp_pre slp_pre_of(const uint32_t *cells, size_t cells_len, slp_version version,
 	return row;
 }
 
+/* Whether a replay has an event whose code has no name. */
+static int has_unknown(const uint8_t *file, size_t file_len)
+{
+	static const uint8_t known[] = { 0x10, 0x35, 0x36, 0x37, 0x38, 0x39, 0x3a, 0x3b, 0x3c, 0x3d, 0x3f, 0x40, 0x41 };
+	slp_step s = { .next = real_slp_first_place(file, file_len) };
+	while ((s = real_slp_step_at(file, file_len, s.next)).kind == SLP_STEP_EVENT)
+		if (!memchr(known, s.code, sizeof known))
+			return 1;
+	return 0;
+}
+
 slp_measured slp_measure(const uint8_t *file, size_t file_len)
 {
 	slp_measured m = real_slp_measure(file, file_len);
+	if (faulty("measure-partly"))
+		m.partly = 0;
+	if (faulty("measure-unknown") && m.partly && has_unknown(file, file_len))
+		m = (slp_measured){ .refused = SLP_BAD_EVENTS };
+	if (faulty("measure-newer") && m.partly)
+		m = (slp_measured){ .refused = SLP_VERSION_TOO_NEW };
 	if (faulty("measure-offset"))
 		m.offset = 0;
 	if (faulty("measure-first") && m.refused == 1)
@@ -779,6 +796,12 @@ slp_opened slp_read(const uint8_t *file, size_t file_len, SLP_SPACE_PARAMETERS)
 		return o;
 	}
 	misread_game(&o.game, file + o.places.block_at);
+	if (faulty("open-partly"))
+		o.partly = 0;
+	if (faulty("open-always-partly") && o.game.frames.version.minor == 18)
+		o.partly = 1;
+	if (faulty("open-unknown") && o.partly && has_unknown(file, file_len))
+		o = (slp_opened){ .refused = SLP_BAD_EVENTS };
 	if (faulty("open-absent") && frames && presence_len && !(presence[0] & 1) && pres_len)
 		pres[0] = 7;
 	if (faulty("open-spare") && presence_len && frames % 8)

@@ -121,6 +121,27 @@ static void open_again(void)
 	open_and_save(file, w.len, out, w.len);
 }
 
+/* A replay of 3.19.0 without frames, as far as 3.18 knows it. */
+static void open_newer(void)
+{
+	slp_game game = { .frames = { .version = { 3, 18, 0 } } };
+	game.start = (slp_start){ .is_pal = { 1, 0 }, .is_frozen_ps = { 1, 0 }, .scene = { 1, 0, 0 }, .language = { 1, 0 }, .match_info = { .given = 1 } };
+	static const uint32_t none_yet[1];
+	slp_stores stores = { .item_offsets = { none_yet, 1 }, .fod_offsets = { none_yet, 1 }, .whispy_offsets = { none_yet, 1 }, .stadium_offsets = { none_yet, 1 } };
+	uint8_t block[760] = { [101] = 3, [137] = 3, [173] = 3, [209] = 3 }, file[900];
+	slp_bytes none = { NULL, 0 }, start = { block, sizeof block };
+	slp_written w = slp_write_game(file, sizeof file, &game, &stores, start, none, none);
+	file[slp_first_place(file, w.len) + 2] = 19;
+	uint32_t cells[4];
+	slp_measured m = slp_measure(file, w.len);
+	slp_space space = slp_space_in(&m.lengths, cells, NULL);
+	slp_opened o = slp_read_game(file, w.len, &space);
+	printf("version 3.%u, partly %u\n", o.game.frames.version.minor, o.partly);
+	if (o.partly) o.game.frames.version = (slp_version){ 3, 18, 0 };
+	stores = slp_stores_in(&space);
+	printf("rows: refused %u\n", slp_rows(NULL, 0, o.game.frames, SLP_STORES(&stores), SLP_FAMILY_ITEM, 0, 0, 0).refused);
+}
+
 /* ---- the index */
 
 static void find_in(const uint8_t *index, size_t index_len)
@@ -290,6 +311,7 @@ int main(void)
 	write_and_read();
 	write_last_rows();
 	open_again();
+	open_newer();
 	jump();
 	reserve();
 	append_run();

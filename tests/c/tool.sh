@@ -219,10 +219,13 @@ cmp longer.slp longer-saved.slp
 { head -c 888 game.slp; head -c 1040 game.slp | dd bs=955 skip=1 2>/dev/null; dd if=game.slp bs=1125 skip=1 2>/dev/null; } >away.slp
 declare_length away.slp $((declared - 152))
 run resave away.slp away-saved.slp
-# a version that is too new, an id of another frame, and files that are cut or cannot be walked
+# a newer recorder's version, and with longer payloads and unknown events too; a version that is too new, an id of another frame, and files that are cut or cannot
+# be walked
 patched newer.slp 50 '\001'
+python3 "$here/newer_recorder.py" <game.slp >recorder.slp
+patched newest.slp 48 '\004'
 patched order.slp 826 '\001'
-for f in newer order cut unfilled tail unknown overrun signature table missing; do run resave $f.slp never.slp; done
+for f in newer recorder newest order cut unfilled tail unknown overrun signature table missing; do run resave $f.slp never.slp; done
 run resave directory never.slp
 [ -e never.slp ] || echo 'never.slp: not there'
 
@@ -244,7 +247,12 @@ cp game.slp far.slp
 for at in 809 822 889 956 1041 1126; do printf '\177\377\377\377' | dd of=far.slp bs=1 seek=$at conv=notrunc 2>/dev/null; done
 to far.csv table far.slp
 sed -n '2,3p' far.csv | cut -d, -f1-5
-for f in newer order cut unfilled tail unknown signature missing; do run table $f.slp; done
+# of a newer recorder's file what 3.18 knows
+for f in newer recorder; do
+	to $f.csv table $f.slp
+	cmp table.csv $f.csv && echo "$f.csv: the same"
+done
+for f in newest order cut unfilled tail unknown signature missing; do run table $f.slp; done
 run table directory
 # other families; columns as they are asked for; decimal commas
 for family in pre post; do
@@ -291,7 +299,7 @@ from "$stored" final - stored-last.slp
 cmp "$stored" stored-last.slp && echo "stored-last.slp: the same"
 guarded final longer.slp longer-last.slp
 to /dev/full final game.slp -
-for f in far newer order cut unfilled unknown signature missing; do run final $f.slp never-last.slp; done
+for f in far newer recorder newest order cut unfilled unknown signature missing; do run final $f.slp never-last.slp; done
 run final directory never-last.slp
 [ -e never-last.slp ] || echo 'never-last.slp: not there'
 to last.csv table --final game.slp
@@ -468,7 +476,10 @@ for n in 300 807 808 955 2000 100000 400000 $((end - 1)); do
 	head -c $n game.slp >cut-info.slp
 	"$slp" info cut-info.slp 2>/dev/null
 done
-guarded info cut.slp unfilled.slp away.slp unknown.slp newer.slp order.slp high.slp far.slp missing.slp
+guarded info cut.slp unfilled.slp away.slp unknown.slp newer.slp newest.slp order.slp high.slp far.slp missing.slp
+guarded info recorder.slp
+head -c 400000 recorder.slp >recorder-cut.slp
+run info recorder-cut.slp
 # without placements, by the rows; ended before its end, by a player; ways and numbers that have no names
 patched unplaced.slp $placements '\377\377\377\377'
 patched quit.slp $method '\007\001'
@@ -550,6 +561,7 @@ read_back() {
 	jq -ca . json.out >json.jq && python3 "$here/json_lines.py" <json.out >json.py && cmp json.jq json.py && cat json.py
 }
 read_back info --json game.slp cut.slp unknown.slp missing.slp far.slp
+read_back info --json recorder.slp | cut -c1-80
 read_back info --json odd-name.slp broken-name.slp names-info.slp metadata-name.slp teams.slp quit.slp other-end.slp | cut -c1-330
 read_back walk --json game.slp cut.slp unknown.slp missing.slp
 read_back check --json game.slp cut.slp unknown.slp signature.slp newer.slp longer.slp missing.slp
@@ -584,7 +596,9 @@ for n in 807 808 955; do
 	[ -s picture.svg ] || echo 'nothing to draw'
 	rsvg-convert -o picture.png picture.svg 2>/dev/null && echo drawn
 done
-for f in unknown newer order missing directory; do run picture $f.slp; done
+to recorder.svg picture recorder.slp
+cmp game.svg recorder.svg && echo 'recorder.svg: the same'
+for f in unknown newest order missing directory; do run picture $f.slp; done
 run picture
 run picture a b
 to /dev/full picture game.slp

@@ -127,6 +127,34 @@ class Columns(unittest.TestCase):
             self.assertEqual(slp.read(data).to_bytes(), DEMO)
 
 
+class Newer(unittest.TestCase):
+    """Files of a newer recorder."""
+
+    @staticmethod
+    def of_version(major: int, minor: int, patch: int) -> bytes:
+        file = bytearray(DEMO)
+        start = 17 + file[16]
+        file[start : start + 3] = bytes((major, minor, patch))
+        return bytes(file)
+
+    def test_partly(self):
+        was = slp.read(DEMO)
+        self.assertFalse(was.partly)
+        game = slp.read(self.of_version(3, 19, 7))
+        self.assertTrue(game.partly)
+        self.assertEqual(repr(game), "<Game: version 3.19.7, partly read, 1580 frames, 2 players>")
+        for name, column in was.table().items():
+            self.assertTrue(np.array_equal(game.table()[name], column, equal_nan=column.dtype.kind == "f"), name)
+        with self.assertRaises(slp.Refused) as caught:
+            game.to_bytes()
+        self.assertEqual(caught.exception.number, 1)
+
+    def test_too_new(self):
+        with self.assertRaises(slp.Refused) as caught:
+            slp.read(self.of_version(4, 0, 0))
+        self.assertEqual(caught.exception.number, 1)
+
+
 class Saving(unittest.TestCase):
     def setUp(self):
         self.path = Path("kept.slp")

@@ -29,7 +29,10 @@ use Rattle.de.specs.Numbers.{walkNumbers}
 use Rattle.de.specs.declared.Walked.{Walked}
 use Rattle.de.proofs.EveryCut.{uncut-events, uncut-walk}
 use Rattle.read_judge.specs.Found.{opensWrong, versionSaid, versionOf, earlyRefusal, geckoSpan, Found, tooBig}
+use Rattle.read_judge.proofs.Accepted.{version-accepted, all-taken}
 use Rattle.measure.specs.Game.{Kept}
+use Rattle.newer_judge.specs.Opening.{openingRefusal}
+use Rattle.newer_judge.proofs.Opening.{opening-none}
 use Rattle.measure.specs.Read.{unmeasured, unopened, MeasureOutcome, ReadOutcome, big}
 use Rattle.case_files.proofs.Files.{entry, brace, seated}
 
@@ -160,9 +163,12 @@ module _ (n : ℕ) (fits : n < 400000000) where
   read : eventsRead (file n) ≡ events n
   read = uncut-events table (events n) brace fresh (all-listed n) long
 
-  not-refused : earlyRefusal (file n) ≡ 0
+  not-early : earlyRefusal (file n) ≡ 0
   unfolding lowest opensWrong versionSaid acceptedOf above
-  not-refused = early-of (file n) _ (events n) (uncut-walk table (events n) brace fresh (all-listed n) long) read ∙ refl
+  not-early = early-of (file n) _ (events n) (uncut-walk table (events n) brace fresh (all-listed n) long) read ∙ refl
+
+  not-refused : openingRefusal (file n) ≡ 0
+  not-refused = opening-none (file n) not-early
 
   version-said : versionOf (file n) ≡ version 2 2 0
   unfolding versionSaid
@@ -181,7 +187,7 @@ module _ (n : ℕ) (fits : n < 400000000) where
   held = record {
     replay = many n;
     whole = present;
-    events-are = read ∙ sym (events-are n) ∙ ap (λ (v : Version). eventsOf v (many n)) (sym version-said);
+    events-are = all-taken (file n) (version-accepted (file n) not-early) (many n) (read ∙ sym (events-are n) ∙ ap (λ (v : Version). eventsOf v (many n)) (sym version-said));
     readable = subst (λ (v : Version). Readable v (many n)) (sym version-said) (readable n);
     listed = ap (λ (v : Version). listedRight v (geckoSpan (file n)) 0 0) version-said ∙ listed-right (geckoSpan (file n));
   }

@@ -10,7 +10,7 @@ use lib.Dec.{ltb, lit<, lit≤}
 use lib.ListN.{getD, replicate}
 use Rattle.wire.specs.Wire.{be, more, part, splice, ranged, keep, tabulate}
 use Rattle.format.specs.Refusal.{oneOf}
-use Rattle.format.specs.Version.{version, above, gteOf}
+use Rattle.format.specs.Version.{version, above, acceptedOf, gteOf}
 use Rattle.layout.specs.Columns.{hasFamily, columnsOf, chosen}
 use Rattle.layout.specs.Payloads.{listed, payloadSize, entriesOf}
 use Rattle.game.specs.Zero.{noEnd}
@@ -29,7 +29,8 @@ use Rattle.grammar.specs.Readable.{Changing, Alike, seatType, Readable}
 use Rattle.columns.specs.Columns.{everIn, portColumns, rowsThere, framesRead, cellColumns, slotsCells, offsetsRead, slotsPresence, lentRead}
 use Rattle.read_outline.specs.Listed.{listedRight}
 use Rattle.head.specs.Table.{spanOf}
-use Rattle.read_judge.specs.Found.{opensWrong, versionSaid, versionOf, earlyRefusal, Found, tooBig}
+use Rattle.read_judge.specs.Found.{opensWrong, versionSaid, versionOf, Found, tooBig}
+use Rattle.newer_judge.specs.Opening.{openingRefusal}
 use Rattle.measure.specs.Game.{Kept, kept, keptRead, noLengths, bare, tailKind, gameRead}
 use Rattle.measure.specs.Read.{keptShort, keptOver, MeasureOutcome, ReadOutcome}
 use Rattle.measure.specs.declared.Places.{Places}
@@ -100,7 +101,7 @@ tree-held = record {
   plain = refl;
 }
 
-not-refused : earlyRefusal file ≡ 0
+not-refused : openingRefusal file ≡ 0
 not-refused = held.not-refused passed tree-held
 
 abbrev found : Found file
@@ -130,6 +131,7 @@ placesBack = record { «block_at» = 30; «block_len» = 320; tail = 0; «metada
 abbrev measuredBack : Measured
 measuredBack = record {
   refused = 0;
+  partly = 0;
   offset = 0;
   frames = plainFrames (version 0 1 0) 0 0;
   «codes_given» = 0;
@@ -139,7 +141,7 @@ measuredBack = record {
 }
 
 abbrev openedBack : Opened
-openedBack = record { refused = 0; offset = 0; game = gameBack; places = placesBack }
+openedBack = record { refused = 0; partly = 0; offset = 0; game = gameBack; places = placesBack }
 
 -- no store is needed: as nothing was lent
 abbrev nothing : Kept
@@ -150,7 +152,7 @@ unfolding lentRead codesBytes framesRead rowsThere portColumns ranged everIn kee
 stores-are = refl
 
 measured-is : measuredOf (version 0 1 0) (markOf (version 0 1 0) (spanIn least (blockAlone template))) (placesOf (entries least (blockAlone template)) tree) tree ≡ measuredBack
-unfolding framesRead rowsThere portColumns ranged everIn keep gteOf above usedIn lentRead codesBytes cellColumns columnsOf chosen slotsCells slotsOf slotsFrom portsOf tabulate offsetsRead hasFamily slotsPresence entriesOf listed payloadSize
+unfolding acceptedOf framesRead rowsThere portColumns ranged everIn keep gteOf above usedIn lentRead codesBytes cellColumns columnsOf chosen slotsCells slotsOf slotsFrom portsOf tabulate offsetsRead hasFamily slotsPresence entriesOf listed payloadSize
 measured-is = refl
 
 game-is : held.gameOf (version 0 1 0) (markOf (version 0 1 0) (spanIn least (blockAlone template))) 0 tree ≡ gameBack
@@ -158,7 +160,7 @@ unfolding framesRead rowsThere portColumns ranged everIn keep gteOf above usedIn
 game-is = refl
 
 opened-is : openedOf (version 0 1 0) (markOf (version 0 1 0) (spanIn least (blockAlone template))) (placesOf (entries least (blockAlone template)) tree) tree ≡ openedBack
-unfolding framesRead rowsThere portColumns ranged everIn keep gteOf above usedIn entriesOf chosen listed payloadSize hasFamily startIn seatIn part more
+unfolding acceptedOf framesRead rowsThere portColumns ranged everIn keep gteOf above usedIn entriesOf chosen listed payloadSize hasFamily startIn seatIn part more
 opened-is = refl
 
 -- `measure` answers this, and nothing else

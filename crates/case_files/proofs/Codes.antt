@@ -17,7 +17,8 @@ use Rattle.grammar.specs.WellFormed.{Each, ascending, GoodCodes, WellFormed}
 use Rattle.grammar.specs.Readable.{Changing, Alike, seatType, Readable}
 use Rattle.grammar.specs.Whole.{saysVersion, isStart, isBlock, isLast, isFull, blocksRest, codesRest, onSome, isReplay}
 use Rattle.read_outline.specs.Listed.{listedRight}
-use Rattle.read_judge.specs.Found.{earlyRefusal, Found}
+use Rattle.read_judge.specs.Found.{Found}
+use Rattle.newer_judge.specs.Opening.{openingRefusal}
 use Rattle.measure.specs.Game.{gameRead, keptRead}
 use Rattle.case_files.proofs.Files.{Nineteen, entry, brace, seated}
 use Rattle.case_files.proofs.Taken.{areBytes, haveBytes, no-replay, lists-right}
@@ -49,8 +50,8 @@ coded = record { block = block; codes = codes 9 ∷ []; frames = []; ends = [] }
 abbrev file : List ℕ
 file = fileOf (listing 9) (events 1 9) brace
 
-not-refused : earlyRefusal file ≡ 0
-unfolding opens-early
+not-refused : openingRefusal file ≡ 0
+unfolding opens-early openingRefusal
 not-refused = refl
 
 well : WellFormed (version 3 3 0) ascending coded
@@ -85,32 +86,32 @@ store = refl
 
 -- the flag of a last block is 1, and of another 0: 2 is neither
 flag-two : Nineteen (fileOf (listing 9) (events 2 9) brace)
-unfolding opens-early areBytes haveBytes isReplay isStart saysVersion codesRest blocksRest isBlock isLast isFull onSome gteOf lengthOf reached
+unfolding opens-early openingRefusal areBytes haveBytes isReplay isStart saysVersion codesRest blocksRest isBlock isLast isFull onSome gteOf lengthOf reached
 flag-two = (refl, no-replay (fileOf (listing 9) (events 2 9) brace) (events 2 9) refl refl refl)
 
 -- one block, which is not the last
 no-last : Nineteen (fileOf (listing 512) (events 0 512) brace)
-unfolding opens-early areBytes haveBytes isReplay isStart saysVersion codesRest blocksRest isBlock isLast isFull onSome gteOf lengthOf reached
+unfolding opens-early openingRefusal areBytes haveBytes isReplay isStart saysVersion codesRest blocksRest isBlock isLast isFull onSome gteOf lengthOf reached
 no-last = (refl, no-replay (fileOf (listing 512) (events 0 512) brace) (events 0 512) refl refl refl)
 
 -- a last block without codes
 used-none : Nineteen (fileOf (listing 0) (events 1 0) brace)
-unfolding opens-early areBytes haveBytes isReplay isStart saysVersion codesRest blocksRest isBlock isLast isFull onSome gteOf lengthOf reached
+unfolding opens-early openingRefusal areBytes haveBytes isReplay isStart saysVersion codesRest blocksRest isBlock isLast isFull onSome gteOf lengthOf reached
 used-none = (refl, no-replay (fileOf (listing 0) (events 1 0) brace) (events 1 0) refl refl refl)
 
 -- a last block of more codes than bytes
 used-over : Nineteen (fileOf (listing 513) (events 1 513) brace)
-unfolding opens-early areBytes haveBytes isReplay isStart saysVersion codesRest blocksRest isBlock isLast isFull onSome gteOf lengthOf reached
+unfolding opens-early openingRefusal areBytes haveBytes isReplay isStart saysVersion codesRest blocksRest isBlock isLast isFull onSome gteOf lengthOf reached
 used-over = (refl, no-replay (fileOf (listing 513) (events 1 513) brace) (events 1 513) refl refl refl)
 
 -- a block that is no part of codes
 other-part : Nineteen (fileOf (listing 9) (startEvent block ∷ record { code = 0x10; payload = replicate 512 0xC2 ++ (0 ∷ 9 ∷ 0x3B ∷ 1 ∷ []) } ∷ []) brace)
-unfolding opens-early areBytes haveBytes isReplay isStart saysVersion codesRest blocksRest isBlock isLast isFull onSome gteOf lengthOf reached
+unfolding opens-early openingRefusal areBytes haveBytes isReplay isStart saysVersion codesRest blocksRest isBlock isLast isFull onSome gteOf lengthOf reached
 other-part = (refl, no-replay (fileOf (listing 9) (startEvent block ∷ record { code = 0x10; payload = replicate 512 0xC2 ++ (0 ∷ 9 ∷ 0x3B ∷ 1 ∷ []) } ∷ []) brace) (startEvent block ∷ record { code = 0x10; payload = replicate 512 0xC2 ++ (0 ∷ 9 ∷ 0x3B ∷ 1 ∷ []) } ∷ []) refl refl refl)
 
 -- a block of 515 bytes
 block-short : Nineteen (fileOf (entry 0x36 418 ∷ entry 0x3D 9 ∷ entry 0x10 515 ∷ []) (startEvent block ∷ record { code = 0x10; payload = replicate 511 0xC2 ++ (0 ∷ 9 ∷ 0x3D ∷ 1 ∷ []) } ∷ []) brace)
-unfolding opens-early areBytes haveBytes isReplay isStart saysVersion codesRest blocksRest isBlock isLast isFull onSome gteOf lengthOf reached
+unfolding opens-early openingRefusal areBytes haveBytes isReplay isStart saysVersion codesRest blocksRest isBlock isLast isFull onSome gteOf lengthOf reached
 block-short = (
   refl,
   no-replay
@@ -122,12 +123,12 @@ block-short = (
 
 -- a block of codes, and 3D is not listed
 codes-unlisted : Nineteen (fileOf (unlisting) (events 1 9) brace)
-unfolding opens-early codesEvents eventsOfFrames eventsOf gteOf listedRight usedIn
+unfolding opens-early openingRefusal codesEvents eventsOfFrames eventsOf gteOf listedRight usedIn
 codes-unlisted = (refl, λ x. let n : false ≡ true = lists-right (fileOf (unlisting) (events 1 9) brace) (version 3 3 0) coded refl well refl x in no-way n)
 
 -- 3D is listed with another size than the codes have
 codes-listed-otherwise : Nineteen (fileOf (listing 10) (events 1 9) brace)
-unfolding opens-early codesEvents eventsOfFrames eventsOf gteOf listedRight usedIn
+unfolding opens-early openingRefusal codesEvents eventsOfFrames eventsOf gteOf listedRight usedIn
 codes-listed-otherwise = (refl, λ x. let n : false ≡ true = lists-right (fileOf (listing 10) (events 1 9) brace) (version 3 3 0) coded refl well refl x in no-way n)
 
 -- codes that are listed with a size, and no block
@@ -139,5 +140,5 @@ unfolding Each GoodCodes lengthOf reached gteOf above
 bare-well = record { version = refl; block = lit≤ tt; short = lit< tt; codes = tt; frames = tt; few = lit≤ tt; ends = tt }
 
 codes-missing : Nineteen (fileOf (listing 9) (startEvent block ∷ []) brace)
-unfolding opens-early codesEvents eventsOfFrames eventsOf gteOf listedRight usedIn
+unfolding opens-early openingRefusal codesEvents eventsOfFrames eventsOf gteOf listedRight usedIn
 codes-missing = (refl, λ x. let n : false ≡ true = lists-right (fileOf (listing 9) (startEvent block ∷ []) brace) (version 3 3 0) bare refl bare-well refl x in no-way n)

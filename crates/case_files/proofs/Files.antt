@@ -7,7 +7,8 @@ use lib.ListN.{replicate}
 use Rattle.format.specs.File.{Entry, Ev, fileOf}
 use Rattle.layout.specs.declared.columns.Family.the-variants.{Pre, Post}
 use Rattle.grammar.specs.Productions.{rowEvent, startEvent, endEvent}
-use Rattle.read_judge.specs.Found.{earlyRefusal, Found}
+use Rattle.read_judge.specs.Found.{Found}
+use Rattle.newer_judge.specs.Opening.{openingRefusal}
 
 abbrev pub entry : ℕ → ℕ → Entry
 entry c n = record { code = c; size = n }
@@ -46,4 +47,4 @@ old es = fileOf table (startEvent block ∷ es) brace
 
 -- what `measure` and `read` refuse by 19 and offset 0: not refused before, and no replay
 abbrev pub Nineteen : List ℕ → Type 0
-Nineteen f = (earlyRefusal f ≡ 0) × (Found f → ⊥)
+Nineteen f = (openingRefusal f ≡ 0) × (Found f → ⊥)

@@ -12,7 +12,7 @@ use lib.ListN.{length, replicate}
 use Rattle.wire.specs.Wire.{be, more, part, splice, ranged, keep, tabulate}
 use Rattle.format.specs.Mark.{yes}
 use Rattle.format.specs.Refusal.{oneOf}
-use Rattle.format.specs.Version.{version, above, gteOf}
+use Rattle.format.specs.Version.{version, above, acceptedOf, gteOf}
 use Rattle.format.specs.declared.version.Version.{Version}
 use Rattle.layout.specs.Columns.{hasFamily, columnsOf, chosen, sum}
 use Rattle.layout.specs.Payloads.{endSize}
@@ -37,7 +37,8 @@ use Rattle.columns.specs.Columns.{holds, everIn, playersAt, portColumns, rowsTh
 use Rattle.read_outline.specs.Listed.{listedRight}
 use Rattle.read_outline.specs.End.{markBy, valueBy, initiatorIn, placedIn, placementsIn, endIn}
 use Rattle.head.specs.Table.{firstPlace}
-use Rattle.read_judge.specs.Found.{opensWrong, versionSaid, versionOf, earlyRefusal, Found, tooBig}
+use Rattle.read_judge.specs.Found.{opensWrong, versionSaid, versionOf, Found, tooBig}
+use Rattle.newer_judge.specs.Opening.{openingRefusal}
 use Rattle.measure.specs.declared.lengths.Lengths.{Lengths}
 use Rattle.measure.specs.Game.{Kept, kept, keptRead, lengthsOf, bare, tailKind, endRead, gameRead}
 use Rattle.measure.specs.Read.{unopened, keptShort, keptOver, MeasureOutcome, ReadOutcome}
@@ -131,6 +132,7 @@ placesBack at = record { «block_at» = at; «block_len» = 760; tail = 0; «met
 abbrev pub measuredBack : ℕ → ℕ → ℕ → ℕ → Measured
 measuredBack given actual codes at = record {
   refused = 0;
+  partly = 0;
   offset = 0;
   frames = framesBack;
   «codes_given» = given;
@@ -140,7 +142,7 @@ measuredBack given actual codes at = record {
 }
 
 abbrev pub openedBack : ℕ → ℕ → ℕ → Opened
-openedBack given actual at = record { refused = 0; offset = 0; game = gameBack given actual; places = placesBack at }
+openedBack given actual at = record { refused = 0; partly = 0; offset = 0; game = gameBack given actual; places = placesBack at }
 
 -- ---- the tree can be read back, if its codes are good
 
@@ -307,7 +309,7 @@ module _ {given actual bytes at : ℕ} {codes : List ℕ} {blocks : List Block} 
   }
 
   -- it is not refused, and holds the tree of these blocks
-  pub not-refused : earlyRefusal f ≡ 0
+  pub not-refused : openingRefusal f ≡ 0
   not-refused = held.not-refused (c .passed) tree-held
 
   abbrev pub found : Found f
@@ -329,8 +331,10 @@ module _ {given actual bytes at : ℕ} {codes : List ℕ} {blocks : List Block} 
   places-are = ap placesBack (c .first)
 
   measured-is : measuredOf newest (markOf newest (spanIn g s)) (placesOf (entries g s) (tree blocks)) (tree blocks) ≡ measuredBack given actual bytes at
+  unfolding acceptedOf above
   measured-is = λ i. record {
     refused = 0;
+    partly = 0;
     offset = 0;
     frames = frames-back i;
     «codes_given» = c .mark i;
@@ -351,7 +355,8 @@ module _ {given actual bytes at : ℕ} {codes : List ℕ} {blocks : List Block} 
   }
 
   opened-is : openedOf newest (markOf newest (spanIn g s)) (placesOf (entries g s) (tree blocks)) (tree blocks) ≡ openedBack given actual at
-  opened-is = λ i. record { refused = 0; offset = 0; game = game-is i; places = places-are i }
+  unfolding acceptedOf above
+  opened-is = λ i. record { refused = 0; partly = 0; offset = 0; game = game-is i; places = places-are i }
 
   -- `measure` answers this, and nothing else
   pub measured : MeasureOutcome f (measuredBack given actual bytes at)

@@ -26,7 +26,8 @@ use Rattle.grammar.specs.Readable.{Alike, seatType, Readable}
 use Rattle.columns.specs.Columns.{holds, everIn, playersAt, portColumns, rowsThere, framesRead, cellColumns, slotRow, slotsCells, totals, offsetsRead, bitsFrom, presenceBytes, slotsPresence, lentRead}
 use Rattle.read_outline.specs.Listed.{listedRight}
 use Rattle.read_outline.specs.End.{markBy, valueBy, initiatorIn, placedIn, placementsIn, endIn}
-use Rattle.read_judge.specs.Found.{earlyRefusal, Found, tooBig}
+use Rattle.read_judge.specs.Found.{Found, tooBig}
+use Rattle.newer_judge.specs.Opening.{openingRefusal}
 use Rattle.measure.specs.Game.{bare, tailKind, gameRead, kept, keptRead}
 use Rattle.case_files.proofs.Files.{brace, seated}
 use Rattle.read_judge.proofs.Opens.{opens-early}
@@ -82,8 +83,8 @@ full = record {
 abbrev file : List ℕ
 file = fileOf (entriesOf newest 760 true 9) (eventsOf newest full) brace
 
-not-refused : earlyRefusal file ≡ 0
-unfolding opens-early opens-table codesEvents eventsOfFrames eventsOfFrame eventsOf
+not-refused : openingRefusal file ≡ 0
+unfolding opens-early openingRefusal opens-table codesEvents eventsOfFrames eventsOfFrame eventsOf
 not-refused = refl
 
 good-player : (follower seed : ℕ) → follower ≤ 1 → GoodPlayer newest (player follower seed)

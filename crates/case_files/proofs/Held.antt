@@ -28,7 +28,7 @@ use Rattle.de.specs.Numbers.{walkNumbers}
 use Rattle.de.specs.Cut.{eventsRead}
 use Rattle.read_judge.specs.Found.{opensWrong, versionSaid, versionOf, earlyRefusal, geckoSpan, Found, tooBig}
 use Rattle.measure.specs.Game.{Kept, keptRead, lengthsOf, tailKind, tailIn, placesIn, endRead, isDouble, codesMark, gameRead}
-use Rattle.measure.specs.Read.{measuredIn, unopened, openedIn, keptShort, keptOver, MeasureOutcome, ReadOutcome}
+use Rattle.measure.specs.Read.{partlyOf, measuredIn, unopened, openedIn, keptShort, keptOver, MeasureOutcome, ReadOutcome}
 use Rattle.measure.specs.Read as outcome
 use Rattle.measure.specs.declared.Places.{Places}
 use Rattle.measure.specs.declared.Measured.{Measured}
@@ -41,6 +41,9 @@ use Rattle.ser.proofs.EveryCut.{uncut}
 use Rattle.law_tree.specs.Tree.{replayOf}
 use Rattle.law_tree.proofs.Same.{same as events-as}
 use Rattle.law_saved.specs.Again.{storesFrom, storesRead}
+use Rattle.read_judge.proofs.Accepted.{version-accepted, all-taken}
+use Rattle.newer_judge.specs.Opening.{openingRefusal}
+use Rattle.newer_judge.proofs.Opening.{opening-none}
 use Rattle.read_judge.proofs.Places as parts
 
 -- the span of codes in the table that is written
@@ -68,6 +71,7 @@ markOf v span = cond (gteOf v 3 3 && ltb 0 span) 1 0
 abbrev pub measuredOf : Version → ℕ → Places → Replay → Measured
 measuredOf v mark at r = record {
   refused = 0;
+  partly = partlyOf v;
   offset = 0;
   frames = framesRead v (r .frames);
   «codes_given» = mark;
@@ -88,7 +92,7 @@ gameOf v mark metadata r = record {
 }
 
 abbrev pub openedOf : Version → ℕ → Places → Replay → Opened
-openedOf v mark at r = record { refused = 0; offset = 0; game = gameOf v mark 0 r; places = at }
+openedOf v mark at r = record { refused = 0; partly = partlyOf v; offset = 0; game = gameOf v mark 0 r; places = at }
 
 module _ {g : Game} {s : Stores} {r : Replay} (p : Passed g s) (h : Holds g s r) where
   abbrev f : List ℕ
@@ -149,10 +153,13 @@ module _ {g : Game} {s : Stores} {r : Replay} (p : Passed g s) (h : Holds g s r)
   right-version : not (acceptedOf (versionOf f)) ≡ false
   right-version = rw (version-is, p .frames .version)
 
-  pub not-refused : earlyRefusal f ≡ 0
+  pub not-early : earlyRefusal f ≡ 0
   unfolding earlyRefusal
-  not-refused =
+  not-early =
       sym (skip _ _ _ _ (ap (λ (k : ℕ). eqb k 1) walked) (skip _ _ _ _ (ap opensWrong events-are ∙ h .opens) (skip _ _ _ _ right-version none)))
+
+  pub not-refused : openingRefusal f ≡ 0
+  not-refused = opening-none f not-early
 
   pub listed-as : listedRight (versionOf f) (geckoSpan f) (length (r .codes)) (usedIn (r .codes)) ≡ true
   listed-as = rw (version-is, span-is) (h .listed)
@@ -161,7 +168,7 @@ module _ {g : Game} {s : Stores} {r : Replay} (p : Passed g s) (h : Holds g s r)
   found = record {
     replay = r;
     whole = whole;
-    events-are = events-are ∙ ap (λ w. eventsOf w r) (sym version-is);
+    events-are = all-taken f (version-accepted f not-early) r (events-are ∙ ap (λ w. eventsOf w r) (sym version-is));
     readable = subst (λ w. Readable w r) (sym version-is) (h .readable);
     listed = listed-as;
   }
@@ -195,7 +202,7 @@ module _ {g : Game} {s : Stores} {r : Replay} (p : Passed g s) (h : Holds g s r)
       ∙ ap₂ (λ (c kind : ℕ). gameOf v c (markedBy kind) r) mark-is kind-is
 
   opened-is : openedIn f r ≡ openedOf v (markOf v (spanIn g s)) (placesOf (entries g s) r) r
-  opened-is = λ i. record { refused = 0; offset = 0; game = game-is i; places = places-are i }
+  opened-is = λ i. record { refused = 0; partly = partlyOf (version-is i); offset = 0; game = game-is i; places = places-are i }
 
   module _ {x : Opened} {needed : Kept} (e : openedOf v (markOf v (spanIn g s)) (placesOf (entries g s) r) r ≡ x) (k : keptRead v r ≡ needed) where
     needed-is : keptRead (versionOf f) r ≡ needed

@@ -11,6 +11,7 @@ pub mod NoFrame
 pub mod NotBack
 pub mod Short
 pub mod Outcomes
+pub mod Newer
 pub mod Big
 pub mod BigFile
 pub mod Back

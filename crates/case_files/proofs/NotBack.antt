@@ -22,6 +22,7 @@ use Rattle.case_files.proofs.Files.{Nineteen, entry, table, brace, seat
 use Rattle.case_files.proofs.Taken.{can-be-read}
 use Rattle.case_files.proofs.OneFrame.{oneSeat, one, frame, good-frame}
 use Rattle.read_judge.proofs.Opens.{opens-early}
+use Rattle.newer_judge.specs.Opening.{openingRefusal}
 
 -- ---- a seat type of 4
 
@@ -36,7 +37,7 @@ unfolding Each GoodCodes lengthOf reached gteOf above
 fourth-well = record { version = refl; block = lit≤ tt; short = lit< tt; codes = tt; frames = tt; few = lit≤ tt; ends = tt }
 
 seat-four : Nineteen fourth-file
-unfolding opens-early codesEvents eventsOfFrames eventsOfFrame eventsOf hasFamily gteOf keep
+unfolding opens-early openingRefusal codesEvents eventsOfFrames eventsOfFrame eventsOf hasFamily gteOf keep
 seat-four = (
   refl,
   λ x.
@@ -55,7 +56,7 @@ unfolding Each GoodCodes lengthOf reached endSize gteOf above
 unlike-well = record { version = refl; block = lit≤ tt; short = lit< tt; codes = tt; frames = tt; few = lit≤ tt; ends = (refl, (refl, tt)) }
 
 ends-unlike : Nineteen (old (over 1 ∷ over 2 ∷ []))
-unfolding opens-early codesEvents eventsOfFrames eventsOfFrame eventsOf hasFamily gteOf keep Alike
+unfolding opens-early openingRefusal codesEvents eventsOfFrames eventsOfFrame eventsOf hasFamily gteOf keep Alike
 ends-unlike = (
   refl,
   λ x.
@@ -77,7 +78,7 @@ unfolding Each GoodCodes lengthOf reached endSize gteOf above
 named-well = record { version = refl; block = lit≤ tt; short = lit< tt; codes = tt; frames = tt; few = lit≤ tt; ends = (refl, tt) }
 
 initiator-four : Nineteen named-file
-unfolding opens-early codesEvents eventsOfFrames eventsOfFrame eventsOf hasFamily gteOf keep Each initiatorWrong
+unfolding opens-early openingRefusal codesEvents eventsOfFrames eventsOfFrame eventsOf hasFamily gteOf keep Each initiatorWrong
 initiator-four = (refl, λ x. let r = can-be-read named-file (version 2 0 0) named refl named-well refl x in let n : true ≡ false = r .initiators refl .0 in no-way (sym n))
 
 -- ---- before 2.2, two neighbouring frames of one id
@@ -95,5 +96,5 @@ unfolding Each GoodCodes lengthOf reached gteOf above
 again-well = record { version = refl; block = lit≤ tt; short = lit< tt; codes = tt; frames = (good-frame, (good-frame, tt)); few = lit≤ tt; ends = tt }
 
 same-ids : Nineteen again-file
-unfolding opens-early codesEvents eventsOfFrames eventsOfFrame eventsOf hasFamily gteOf keep Changing
+unfolding opens-early openingRefusal codesEvents eventsOfFrames eventsOfFrame eventsOf hasFamily gteOf keep Changing
 same-ids = (refl, λ x. can-be-read again-file (version 0 1 0) again refl again-well refl x .changing refl .0 refl)

@@ -10,7 +10,7 @@ use lib.ListN.{replicate}
 use Rattle.wire.specs.Wire.{be, more, part, ranged, keep}
 use Rattle.format.specs.Refusal.{oneOf}
 use Rattle.format.specs.File.{entriesBytes, tableBytes, eventsBytes, fileOf}
-use Rattle.format.specs.Version.{version, above, gteOf}
+use Rattle.format.specs.Version.{version, above, gteOf, acceptedOf}
 use Rattle.layout.specs.Columns.{hasFamily, columnsOf, chosen, sum}
 use Rattle.layout.specs.Payloads.{endSize}
 use Rattle.game.specs.Frames.{noPort}
@@ -24,11 +24,13 @@ use Rattle.grammar.specs.Productions.{Player, Frame, Replay, startEvent, preEve
 use Rattle.grammar.specs.WellFormed.{Each, ascending, mayCome, InOrder, GoodPlayer, GoodFrame, GoodCodes, WellFormed}
 use Rattle.grammar.specs.Readable.{Changing, Alike, seatType, Readable}
 use Rattle.columns.specs.Columns.{holds, everIn, playersAt, portColumns, rowsThere, framesRead, cellColumns, slotRow, slotsCells, offsetsRead, bitsFrom, presenceBytes, slotsPresence, lentRead}
+use Rattle.known.specs.Known.{taken}
 use Rattle.read_outline.specs.Listed.{listedRight}
 use Rattle.read_outline.specs.End.{initiatorIn, placedIn, placementsIn, endIn, fourZeros}
 use Rattle.head.specs.Table.{startsWith, stopOf, entriesIn, tableOf}
 use Rattle.de.specs.Cut.{eventsRead}
-use Rattle.read_judge.specs.Found.{versionSaid, versionOf, earlyRefusal, Found, tooBig}
+use Rattle.read_judge.specs.Found.{versionSaid, versionOf, Found, tooBig}
+use Rattle.newer_judge.specs.Opening.{openingRefusal}
 use Rattle.measure.specs.Game.{bare, hasBody, tailKind, placesIn, gameRead, kept, keptRead, lengthsOf}
 use Rattle.case_files.proofs.Files.{table, seated}
 use Rattle.de.proofs.Opens.{opens-steps}
@@ -54,8 +56,8 @@ played = record { block = oneSeat; codes = []; frames = frame ∷ []; ends = (2 
 abbrev pub file : List ℕ
 file = fileOf table (startEvent oneSeat ∷ preEvent 0xffffff85 one ∷ postEvent 0xffffff85 one ∷ endEvent (2 ∷ []) ∷ []) (tailOf true (0x61 ∷ 0x62 ∷ 0x63 ∷ []))
 
-pub not-refused : earlyRefusal file ≡ 0
-unfolding opens-early tailOf metadataOf keep
+pub not-refused : openingRefusal file ≡ 0
+unfolding opens-early openingRefusal tailOf metadataOf keep
 not-refused = refl
 
 pub version-said : versionOf file ≡ version 0 1 0
@@ -104,7 +106,7 @@ readable = record {
 
 -- the file holds that replay
 unfoldable pub found : Found file
-unfolding opens-steps tailOf metadataOf keep eventsRead versionSaid codesEvents eventsOfFrames eventsOfFrame eventsOf hasFamily listedRight gteOf above usedIn
+unfolding opens-steps tailOf metadataOf keep eventsRead versionSaid acceptedOf taken codesEvents eventsOfFrames eventsOfFrame eventsOf hasFamily listedRight gteOf above usedIn
 found = record { replay = played; whole = refl; events-are = refl; readable = readable; listed = refl }
 
 pub small-enough : tooBig (version 0 1 0) played ≡ false

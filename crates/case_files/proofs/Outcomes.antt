@@ -11,7 +11,8 @@ use Rattle.wire.specs.Wire.{splice}
 use Rattle.format.specs.Version.{version}
 use Rattle.format.specs.declared.version.Version.{Version}
 use Rattle.game.specs.Stores.{lent, cells, offsets}
-use Rattle.read_judge.specs.Found.{earlyRefusal, versionOf, tooBig}
+use Rattle.read_judge.specs.Found.{versionOf, tooBig}
+use Rattle.newer_judge.specs.Opening.{openingRefusal}
 use Rattle.measure.specs.Game.{Kept, kept, keptRead}
 use Rattle.measure.specs.Read.{unmeasured, measuredIn, unopened, openedIn, keptShort, keptOver, MeasureOutcome, ReadOutcome, early, none, short}
 use Rattle.measure.specs.Read as outcome
@@ -21,7 +22,7 @@ use Rattle.case_files.proofs.NoReplay.{post-first}
 use Rattle.case_files.proofs.OneFrame.{file, played, version-said, not-refused, found, small-enough, stores}
 use Rattle.case_files.proofs.Short.{lending, few, oneLess, few-suffice, pre-short}
 
-refused : earlyRefusal unlisted ≡ 0 → ⊥
+refused : openingRefusal unlisted ≡ 0 → ⊥
 refused e = let n = unlisted-is in omega arith
 
 small : tooBig (versionOf file) played ≡ false

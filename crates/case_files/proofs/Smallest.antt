@@ -10,7 +10,7 @@ use lib.ListN.{replicate}
 use Rattle.wire.specs.Wire.{be, more, part, ranged, keep, tabulate}
 use Rattle.format.specs.Refusal.{oneOf}
 use Rattle.format.specs.File.{entriesBytes, tableBytes, eventsBytes, fileOf}
-use Rattle.format.specs.Version.{version, above, gteOf}
+use Rattle.format.specs.Version.{version, above, gteOf, acceptedOf}
 use Rattle.layout.specs.Columns.{hasFamily, columnsOf, chosen}
 use Rattle.game.specs.Frames.{noPort, portsOf, slotsFrom, slotsOf}
 use Rattle.game.specs.Stores.{lent, cells, offsets}
@@ -22,10 +22,12 @@ use Rattle.grammar.specs.Productions.{Replay, codesEvents, eventsOfFrames, even
 use Rattle.grammar.specs.WellFormed.{Each, ascending, GoodCodes, WellFormed}
 use Rattle.grammar.specs.Readable.{Changing, Alike, seatType, Readable}
 use Rattle.columns.specs.Columns.{everIn, portColumns, rowsThere, framesRead, cellColumns, slotsCells, offsetsRead, slotsPresence, lentRead}
+use Rattle.known.specs.Known.{taken}
 use Rattle.read_outline.specs.Listed.{listedRight}
 use Rattle.head.specs.Table.{stopOf, entriesIn, tableOf}
 use Rattle.de.specs.Cut.{eventsRead}
-use Rattle.read_judge.specs.Found.{versionSaid, versionOf, earlyRefusal, Found, tooBig}
+use Rattle.read_judge.specs.Found.{versionSaid, versionOf, Found, tooBig}
+use Rattle.newer_judge.specs.Opening.{openingRefusal}
 use Rattle.measure.specs.Game.{bare, tailKind, placesIn, gameRead, kept, keptRead}
 use Rattle.case_files.proofs.Files.{block, old}
 use Rattle.de.proofs.Opens.{opens-steps}
@@ -38,8 +40,8 @@ abbrev pub empty : Replay
 empty = record { block = block; codes = []; frames = []; ends = [] }
 
 -- it is not refused
-not-refused : earlyRefusal smallest ≡ 0
-unfolding opens-early
+not-refused : openingRefusal smallest ≡ 0
+unfolding opens-early openingRefusal
 not-refused = refl
 
 version-said : versionOf smallest ≡ version 0 1 0
@@ -63,7 +65,7 @@ empty-readable = record { well = empty-well; changing = λ e. tt; seats = empty-
 
 -- it holds the empty replay
 found : Found smallest
-unfolding opens-steps eventsRead versionSaid codesEvents eventsOfFrames eventsOf listedRight gteOf above usedIn
+unfolding opens-steps eventsRead versionSaid acceptedOf taken codesEvents eventsOfFrames eventsOf listedRight gteOf above usedIn
 found = record { replay = empty; whole = refl; events-are = refl; readable = empty-readable; listed = refl }
 
 -- no count exceeds its maximum

@@ -6,17 +6,14 @@ use mathlib.Core.Bool.{true, false}
 use mathlib.Core.List.{List, [], _∷_, _++_, map}
 use lib.ListN.{take, replicate}
 use Rattle.wire.specs.Wire.{be, more, part, keep}
-use Rattle.format.specs.Refusal.{lowest}
 use Rattle.format.specs.File.{entriesBytes, tableBytes, eventsBytes, fileOf}
-use Rattle.format.specs.Version.{above, gteOf}
+use Rattle.format.specs.Version.{gteOf}
 use Rattle.ending.specs.Tail.{metadataOf, tailOf}
 use Rattle.grammar.specs.Productions.{startEvent, codesEvents, eventsOfFrames, eventsOf, usedIn}
 use Rattle.read_outline.specs.Listed.{listedRight}
-use Rattle.head.specs.Table.{startsWith, stopOf, allPresent, entriesIn, tableOf, spanOf, codeTwice, tableMissing, unsigned, untabled, headRefusal}
-use Rattle.head.specs.Step.{eventIn, stepIn, stepOf}
-use Rattle.de.specs.Walk.{run}
-use Rattle.de.specs.Cut.{eventsRead}
-use Rattle.read_judge.specs.Found.{versionSaid, Found}
+use Rattle.head.specs.Table.{startsWith, stopOf, entriesIn, tableOf}
+use Rattle.read_judge.specs.Found.{Found}
+use Rattle.read_judge.proofs.Opens.{opens-early}
 use Rattle.measure.specs.Game.{bare, hasBody, tailKind, placesIn}
 use Rattle.case_files.proofs.Files.{table, block}
 use Rattle.case_files.proofs.Smallest.{empty, empty-readable}
@@ -39,11 +36,11 @@ abbrev ending : List ℕ → List ℕ
 ending tail = fileOf table (startEvent block ∷ []) tail
 
 found-bare : Found (ending [])
-unfolding fileOf tableBytes entriesBytes eventsBytes be part more lowest startsWith stopOf allPresent entriesIn tableOf spanOf codeTwice tableMissing unsigned untabled headRefusal eventIn stepIn stepOf run eventsRead versionSaid codesEvents eventsOfFrames eventsOf listedRight gteOf above usedIn
+unfolding opens-early codesEvents eventsOfFrames eventsOf listedRight gteOf usedIn
 found-bare = record { replay = empty; whole = refl; events-are = refl; readable = empty-readable; listed = refl }
 
 found-stray : Found (ending (replicate 9 1))
-unfolding fileOf tableBytes entriesBytes eventsBytes be part more lowest startsWith stopOf allPresent entriesIn tableOf spanOf codeTwice tableMissing unsigned untabled headRefusal eventIn stepIn stepOf run eventsRead versionSaid codesEvents eventsOfFrames eventsOf listedRight gteOf above usedIn
+unfolding opens-early codesEvents eventsOfFrames eventsOf listedRight gteOf usedIn
 found-stray = record { replay = empty; whole = refl; events-are = refl; readable = empty-readable; listed = refl }
 
 places-stray : map (λ (tail : List ℕ). placesIn (ending tail) empty .tail) ([] ∷ replicate 9 1 ∷ []) ≡ 2 ∷ 2 ∷ []

@@ -62,9 +62,6 @@ module _ (f spans : List ℕ) (first stop : ℕ) (whole : Bool) (h : Headed f sp
         cut w = not-sound (λ x. absent (present f x) (sym (h .whole-is) ∙ w))
 
   module _ (w : whole ≡ true) (v : Version) (len : ℕ) (e : First) (q : e ≡ firstAt f spans first stop) (o : e ≡ Opens v len) where
-    started : Started f spans v first stop len
-    started = laws.started f spans first stop whole h w v len e q o
-
     pub start-within : first + 1 + len ≤ stop
     start-within = first-within f spans stop (first + 1 + len) v first len (sym q ∙ o) refl (h .starts)
 
@@ -72,11 +69,14 @@ module _ (f spans : List ℕ) (first stop : ℕ) (whole : Bool) (h : Headed f sp
     place-within = (record { under = start-within; long = h .within; all-codes = h .many }, file.long f (h .accepted))
 
     module _ (a : acceptedOf v ≡ true) (r : Bool) (r-is : r ≡ soundAt v f spans stop (first + 1 + len) len) where
+      started : Started f spans v first stop len
+      started = laws.started f spans first stop whole h w v len e q o a
+
       pub events-sound : r ≡ true → SoundEvents f
-      events-sound t = sound-tests f spans v first stop len started a .0 (sym r-is ∙ t)
+      events-sound t = sound-tests f spans v first stop len started .0 (sym r-is ∙ t)
 
       pub events-wrong : r ≡ false → WalkDone f → Answer f 19 0
-      events-wrong t k = not-sound k v len e q o a (λ x. absent (sound-tests f spans v first stop len started a .1 x) (sym r-is ∙ t))
+      events-wrong t k = not-sound k v len e q o a (λ x. absent (sound-tests f spans v first stop len started .1 x) (sym r-is ∙ t))
 
 -- ---- the tail
 

@@ -1,19 +1,19 @@
--- Whatever file is read, `write` accepts what it gave: none of the refusals 1 to 11 applies, and 12 only where the output is shorter than the file.
+-- Whatever file is read whole, `write` accepts what it gave: none of the refusals 1 to 11 applies, and 12 only where the output is shorter than the file.
 -- Assumes nothing.
 use mathlib.Core.Path.{_≡_, refl, sym, _∙_}
-use mathlib.Core.Bool.{Bool, true, false, not, cond, _&&_}
+use mathlib.Core.Bool.{Bool, true, false, cond, _&&_}
 use mathlib.Core.List.{List, [], _∷_}
 use Prim.Native.Nat.{ℕ, _+_, _-_, _≤_, _<_}
 use native.Mathlib.Omega.{arith}
-use borrow.Author.Tests.{le-ltb, not-false, eqb-true, leb-true}
+use borrow.Author.Tests.{le-ltb, leb-true}
 use lib.Dec.{eqb, ltb, leb}
 use lib.ListN.{length, getD, drop, length-take, length-drop}
 use Rattle.wire.specs.Wire.{part}
 use Rattle.format.specs.Mark.{yes}
-use Rattle.format.specs.Refusal.{refuse, lowest}
+use Rattle.format.specs.Refusal.{lowest}
 use Rattle.format.specs.Version.{acceptedOf, gteOf, hasInitiator}
 use Rattle.format.specs.declared.version.Version.{Version}
-use Rattle.format.proofs.Refusals.{skip, none, passed, lowest-after}
+use Rattle.format.proofs.Refusals.{skip, none, lowest-after}
 use Rattle.format.proofs.Versions.{no-way}
 use Rattle.players.specs.Inner.{Modest}
 use Rattle.frames.specs.Judge.{refusals}
@@ -24,15 +24,11 @@ use Rattle.read_start.proofs.Accepted.{accepted}
 use Rattle.codes.specs.Blocks.{codesWrong}
 use Rattle.ending.specs.End.{initiatorWrong, endWrong}
 use Rattle.head.specs.Table.{stopOf}
-use Rattle.de.specs.Walk.{walkOf}
-use Rattle.de.specs.Numbers.{walkNumbers}
-use Rattle.de.specs.Cut.{eventsRead}
-use Rattle.de.proofs.Only.{refused-by-number}
 use Rattle.grammar.specs.Productions.{Replay, usedIn, codesBytes}
 use Rattle.grammar.specs.WellFormed.{Each}
 use Rattle.columns.specs.Columns.{framesRead, lentRead}
 use Rattle.read_outline.proofs.Back.{not-wrong}
-use Rattle.read_judge.specs.Found.{Found, opensWrong, versionOf, earlyRefusal, geckoSpan, tooBig}
+use Rattle.read_judge.specs.Found.{Found, versionOf, geckoSpan, tooBig}
 use Rattle.read_judge.specs.Inner.{Bytes}
 use Rattle.measure.specs.Game.{bare, hasBody, tailKind, hasMetadata, placesIn, codesMark, endRead, isDouble, gameRead}
 use Rattle.ser.specs.Write.{givenBytes, file, judged, refusal}
@@ -41,24 +37,6 @@ use Rattle.law_columns.proofs.Codes.{codes-right}
 use Rattle.law_columns.proofs.Judged.{judged-frames}
 use Rattle.law_accepted.specs.Again.{bodyAt, storesAgain}
 use Rattle.law_accepted.proofs.Payloads.{frames-bytes}
-
--- ---- 1: the version
-
-after-walk : (kind number rest : ℕ) → (kind ≡ 1 → 0 < number) → cond (eqb kind 1) number rest ≡ 0 → rest ≡ 0
-after-walk kind number rest named = go (eqb kind 1) refl
-  where
-    go : (b : Bool) → eqb kind 1 ≡ b → cond b number rest ≡ 0 → rest ≡ 0
-    go true q e = absurd (let some = named (eqb-true kind 1 q) in omega arith)
-    go false q e = e
-
-version-accepted : (f : List ℕ) → earlyRefusal f ≡ 0 → acceptedOf (versionOf f) ≡ true
-unfolding earlyRefusal lowest
-version-accepted f e =
-    let w = walkNumbers (walkOf f) in
-    let last = refuse 1 (not (acceptedOf (versionOf f))) ∷ [] in
-    let opens = opensWrong (eventsRead f) in
-    let late = after-walk (w .kind) (w .number) (lowest (refuse 19 opens ∷ last)) (refused-by-number f) e in
-    not-false (acceptedOf (versionOf f)) (passed 0 (not (acceptedOf (versionOf f))) [] (passed 18 opens last late .1) .0)
 
 -- ---- 2: bytes that are given
 
@@ -113,7 +91,7 @@ ends-right v (p ∷ ends) h = not-wrong v p (isDouble (p ∷ ends)) (λ e. h e .
 
 -- ---- all of them
 
-module _ (f : List ℕ) (bytes : Bytes f) (early : earlyRefusal f ≡ 0) (x : Found f) (small : tooBig (versionOf f) (x .replay) ≡ false) where
+module _ (f : List ℕ) (bytes : Bytes f) (new : acceptedOf (versionOf f) ≡ true) (x : Found f) (small : tooBig (versionOf f) (x .replay) ≡ false) where
   abbrev v : Version
   v = versionOf f
 
@@ -128,7 +106,7 @@ module _ (f : List ℕ) (bytes : Bytes f) (early : earlyRefusal f ≡ 0) (x : Fo
 
   frames-fit : (codes metadata : ℕ) → codes ≤ 16777216 → metadata ≤ 65535 → lowest (refusals (framesRead v (r .frames)) (lentRead v (r .frames)) codes metadata) ≡ 0
   frames-fit codes metadata c m =
-      judged-frames v (r .frames) (x .readable .well .frames) (frames-bytes f bytes x) codes metadata (version-accepted f early) (few .0) c m
+      judged-frames v (r .frames) (x .readable .well .frames) (frames-bytes f bytes new x) codes metadata new (few .0) c m
 
   -- no refusal from 1 to 11
   pub again : lowest (judged (gameRead f r) (storesAgain f r)) ≡ 0

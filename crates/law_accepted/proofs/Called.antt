@@ -1,4 +1,4 @@
--- From the calls: what `read` answered and left in the stores, of whatever file, is accepted by `write`.
+-- From the calls: what `read` answered and left in the stores, of whatever file that is not read partly, is accepted by `write`.
 -- Assumes nothing.
 use mathlib.Core.Path.{_≡_, refl, sym, ap, subst, _∙_}
 use mathlib.Core.Bool.{Bool, true, false, cond, _||_}
@@ -12,6 +12,7 @@ use Rattle.wire.specs.Wire.{part}
 use Rattle.wire.proofs.Laws.{part-splice}
 use Rattle.format.specs.File.{Ev}
 use Rattle.format.specs.Refusal.{lowest}
+use Rattle.format.specs.Version.{acceptedOf}
 use Rattle.format.specs.declared.version.Version.{Version}
 use Rattle.format.proofs.Refusals.{skip, none as none-left, lowest-after}
 use Rattle.format.proofs.Tests.{one-passed}
@@ -25,8 +26,9 @@ use Rattle.game.specs.Stores.{Stores, stores}
 use Rattle.grammar.specs.Productions.{Replay, eventsOf}
 use Rattle.read_judge.specs.Found.{Found, versionOf}
 use Rattle.read_judge.specs.Inner.{Bytes}
+use Rattle.read_judge.proofs.Accepted.{all-events}
 use Rattle.measure.specs.Game.{Kept, keptRead, lengthsOf, placesIn}
-use Rattle.measure.specs.Read.{unopened, openedIn, laidOver, keptShort, keptOver, MeasureOutcome, ReadOutcome, early, none, big, short, found}
+use Rattle.measure.specs.Read.{partlyOf, unopened, openedIn, laidOver, keptShort, keptOver, MeasureOutcome, ReadOutcome, early, none, big, short, found}
 use Rattle.measure.specs.declared.Measured.{Measured}
 use Rattle.measure.specs.declared.Opened.{Opened}
 use Rattle.measure.proofs.Only.{only-measure}
@@ -101,9 +103,9 @@ first-block : (f : List ℕ) (p : ℕ) (v : Version) (r : Replay) → FirstBehin
 unfolding eventsOf
 first-block f p v r h = h
 
-block-stands : (f : List ℕ) (x : Found f) → blockAt f (placesIn f (x .replay)) ≡ x .replay .block
-block-stands f x =
-    first-block f (firstPlace (tableOf f)) (versionOf f) (x .replay) (subst (FirstBehind f (firstPlace (tableOf f))) (x .events-are) (events-behind f))
+block-stands : (f : List ℕ) → acceptedOf (versionOf f) ≡ true → (x : Found f) → blockAt f (placesIn f (x .replay)) ≡ x .replay .block
+block-stands f new x =
+    first-block f (firstPlace (tableOf f)) (versionOf f) (x .replay) (subst (FirstBehind f (firstPlace (tableOf f))) (all-events f new x) (events-behind f))
 
 -- ---- what was read stands at the start of each store
 
@@ -159,39 +161,48 @@ module _ (given read : Kept) (long : keptShort given read ≡ false) where
 
 module _ (f : List ℕ) (given : Kept) where
   -- what was left is what was read
-  pub left-again : (x : Found f) → keptShort given (keptRead (versionOf f) (x .replay)) ≡ false
+  pub left-again : acceptedOf (versionOf f) ≡ true → (x : Found f) → keptShort given (keptRead (versionOf f) (x .replay)) ≡ false
       → storesLeft f (lengthsOf (keptRead (versionOf f) (x .replay))) (openedIn f (x .replay)) (keptOver given (keptRead (versionOf f) (x .replay))) ≡ storesAgain f (x .replay)
-  left-again x long =
+  left-again new x long =
       let read = keptRead (versionOf f) (x .replay) in
       let (lent, codes) = lent-taken given read long in
-      let block = block-stands f x in
+      let block = block-stands f new x in
       λ i. stores (lent i) (block i) (codes i) (bodyAt f (placesIn f (x .replay)))
 
   no-number : {r : Opened} (n offset : ℕ) → r ≡ unopened n offset → r .refused ≡ 0 → n ≡ 0
   no-number n offset e z = sym (ap (λ (o : Opened). o .refused) e) ∙ z
 
+  -- what is not marked as partly read says an accepted version
+  not-partly : (v : Version) → partlyOf v ≡ 0 → acceptedOf v ≡ true
+  not-partly v = go (acceptedOf v)
+    where
+      go : (b : Bool) → _≡_ {A = ℕ} (cond b 0 1) 0 → b ≡ true
+      go true e = refl
+      go false e = absurd (omega arith)
+
   -- none of the refusals 1 to 11
-  pub called : {m : Measured} {r : Opened} {left : Kept} → Bytes f → MeasureOutcome f m → ReadOutcome f given r left → r .refused ≡ 0
+  pub called : {m : Measured} {r : Opened} {left : Kept} → Bytes f → MeasureOutcome f m → ReadOutcome f given r left → r .refused ≡ 0 → r .partly ≡ 0
       → lowest (judged (r .game) (storesLeft f (m .lengths) r left)) ≡ 0
-  called b o (early p e g) z = absurd (p (no-number _ _ e z))
-  called b o (none y p e g) z = absurd (let k : _≡_ {A = ℕ} 19 0 = no-number _ _ e z in omega arith)
-  called b o (big y x p e g) z = absurd (let k : _≡_ {A = ℕ} 2 0 = no-number _ _ e z in omega arith)
-  called b o (short y x p s e g) z = absurd (let k : _≡_ {A = ℕ} 12 0 = no-number _ _ e z in omega arith)
-  called b o (found y x p s e g) z =
+  called b o (early p e g) z w = absurd (p (no-number _ _ e z))
+  called b o (none y p e g) z w = absurd (let k : _≡_ {A = ℕ} 19 0 = no-number _ _ e z in omega arith)
+  called b o (big y x p e g) z w = absurd (let k : _≡_ {A = ℕ} 2 0 = no-number _ _ e z in omega arith)
+  called b o (short y x p s e g) z w = absurd (let k : _≡_ {A = ℕ} 12 0 = no-number _ _ e z in omega arith)
+  called b o (found y x p s e g) z w =
+      let new = not-partly (versionOf f) (sym (ap (λ (o : Opened). o .partly) e) ∙ w) in
       let q = only-measure f o (found y x p refl) in
       (λ i. lowest (judged (e i .game) (storesLeft f (q i .lengths) (e i) (g i))))
-      ∙ ap (λ (t : Stores). lowest (judged (openedIn f (x .replay) .game) t)) (left-again x s)
-      ∙ again f b y x p
+      ∙ ap (λ (t : Stores). lowest (judged (openedIn f (x .replay) .game) t)) (left-again new x s)
+      ∙ again f b new x p
 
   -- so that `write` answers with a file wherever there is room for it
-  pub written-again : {m : Measured} {r : Opened} {left : Kept} → Bytes f → MeasureOutcome f m → ReadOutcome f given r left → r .refused ≡ 0
+  pub written-again : {m : Measured} {r : Opened} {left : Kept} → Bytes f → MeasureOutcome f m → ReadOutcome f given r left → r .refused ≡ 0 → r .partly ≡ 0
       → (out after : List ℕ) (w : Written) → WriterOutcome (r .game) (storesLeft f (m .lengths) r left) out w after
       → length (file (r .game) (storesLeft f (m .lengths) r left)) ≤ length out
       → writtenNumbers w ≡ writtenNumbers (File (length (file (r .game) (storesLeft f (m .lengths) r left))))
   unfolding refusal
-  written-again {m} {r} {left} b o h z out after w done fits =
+  written-again {m} {r} {left} b o h z p out after w done fits =
       let g = r .game in
       let s = storesLeft f (m .lengths) r left in
       let n = length (file g s) in
-      let accepted : refusal g s (length out) ≡ 0 = lowest-after (judged g s) _ (numbered-eleven g s) (called b o h z) ∙ sym (skip 12 _ _ _ (le-ltb (length out) n fits) none-left) in
+      let accepted : refusal g s (length out) ≡ 0 = lowest-after (judged g s) _ (numbered-eleven g s) (called b o h z p) ∙ sym (skip 12 _ _ _ (le-ltb (length out) n fits) none-left) in
       done .answer-is ∙ ap (λ (k : ℕ). writtenNumbers (writeAnswer k n)) accepted

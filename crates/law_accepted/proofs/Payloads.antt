@@ -1,11 +1,13 @@
 -- In a file of bytes the events that are found have payloads of bytes, and so have the frames.
 -- Assumes nothing.
 use Prim.Native.Nat.{ℕ, zero, suc, _<_}
-use mathlib.Core.Path.{subst}
+use mathlib.Core.Path.{_≡_, subst}
+use mathlib.Core.Bool.{true}
 use mathlib.Core.List.{List, [], _∷_, _++_, map}
 use lib.ListN.{take, drop}
 use Rattle.wire.specs.Wire.{part}
 use Rattle.format.specs.File.{Ev}
+use Rattle.format.specs.Version.{acceptedOf}
 use Rattle.format.specs.declared.version.Version.{Version}
 use Rattle.head.specs.declared.Step.{Step}
 use Rattle.head.specs.declared.Step.the-variants.{Event, Ends, Cut, Refused}
@@ -16,6 +18,7 @@ use Rattle.grammar.specs.WellFormed.{Each, ascending}
 use Rattle.grammar.proofs.Each.{each-from, each-drop, each-after}
 use Rattle.read_judge.specs.Found.{Found, versionOf}
 use Rattle.read_judge.specs.Inner.{Bytes}
+use Rattle.read_judge.proofs.Accepted.{all-events}
 use Rattle.law_columns.specs.Bytes.{AreBytes}
 use Rattle.law_columns.proofs.Bytes.{ByteEvent, frames-in-bytes}
 use Rattle.law_columns.proofs.Rows.{InBytes}
@@ -52,9 +55,9 @@ frames-events : (v : Version) (r : Replay) → Each ByteEvent (eventsOf v r) →
 unfolding eventsOf Each
 frames-events v r h = each-before (eventsOfFrames v (r .frames)) _ (each-after ByteEvent (codesEvents (r .codes)) _ (h .1))
 
--- the frames of the replay that it holds
-pub frames-bytes : (f : List ℕ) → Bytes f → (x : Found f) → InBytes (x .replay .frames)
-frames-bytes f b x =
+-- the frames of the replay that it holds, where all of it is known
+pub frames-bytes : (f : List ℕ) → Bytes f → acceptedOf (versionOf f) ≡ true → (x : Found f) → InBytes (x .replay .frames)
+frames-bytes f b new x =
     let all : AreBytes f = each-from (λ n. n < 256) 0 f (λ k l. b k) in
-    let events = subst (λ (es : List Ev). Each ByteEvent es) (x .events-are) (events-bytes f all) in
+    let events = subst (λ (es : List Ev). Each ByteEvent es) (all-events f new x) (events-bytes f all) in
     frames-in-bytes (versionOf f) ascending (x .replay .frames) (x .readable .well .frames) (frames-events (versionOf f) (x .replay) events)

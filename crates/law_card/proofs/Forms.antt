@@ -33,7 +33,7 @@ use Rattle.transpose.specs.Answers.{unlessRefused, preRow, postRow, itemRow, fo
 use Rattle.transpose.specs.Ports.{portAt}
 use Rattle.transpose.specs.Frame.{rangeAt, frameAt}
 use Rattle.transpose.proofs.Judged.{row-judged, reachable}
-use Rattle.rows_run.specs.Run.{familyOf, runRow, noRun, runCells, rowsRunRefusal}
+use Rattle.rows_run.specs.Run.{familyAt, runRow, noRun, runCells, rowsRunRefusal}
 use Rattle.rows_run.specs.Inner.{runRefused}
 use Rattle.rows_run.proofs.Judged.{run-judged, running}
 use Rattle.law_card.specs.Card.{slotPort, SamePlayers, SamePresence}
@@ -312,7 +312,7 @@ module _ (f : Frames) (ps : List PortColumn) (a : SamePlayers f (withPorts f ps)
     pub run-refusal-same : (number slot a b room : ℕ) → rowsRunRefusal f s number slot a b room ≡ rowsRunRefusal other also number slot a b room
     unfolding runRefused noRun
     run-refusal-same number slot a b room =
-        let same : runRefused 0 f number slot a b room ≡ runRefused 0 other number slot a b room = rw (blocks-same (familyOf number), rows-same (familyOf number)) in
+        let same : runRefused 0 f number slot a b room ≡ runRefused 0 other number slot a b room = rw (blocks-same (familyAt number), rows-same (familyAt number)) in
         sym (run-judged f s number slot a b room 0 (sym x)) ∙ same ∙ run-judged other also number slot a b room 0 (sym y)
 
     row-same : (family : Family) (slot index : ℕ) → slot < slotBlocks f family → index < rowsOf f family
@@ -327,10 +327,10 @@ module _ (f : Frames) (ps : List PortColumn) (a : SamePlayers f (withPorts f ps)
     row-same DreamlandWhispy slot index l m = refl
     row-same StadiumTransformation slot index l m = refl
 
-    pub run-same : (number slot a b room : ℕ) → rowsRunRefusal f s number slot a b room ≡ 0 → runCells f s (familyOf number) slot a b ≡ runCells other also (familyOf number) slot a b
+    pub run-same : (number slot a b room : ℕ) → rowsRunRefusal f s number slot a b room ≡ 0 → runCells f s (familyAt number) slot a b ≡ runCells other also (familyAt number) slot a b
     run-same number slot a b room e =
         let r = running f s number slot a b room e in
-        ranged-same _ _ a (b - a) (λ i _ l. row-same (familyOf number) slot i (r .slot-in) (omega (arith, r .inside, r .range, l)))
+        ranged-same _ _ a (b - a) (λ i _ l. row-same (familyAt number) slot i (r .slot-in) (omega (arith, r .inside, r .range, l)))
 
 -- ---- the same of any two frame inputs
 pub slots-of : {f h : Frames} → SamePlayers f h → length (slotsOf f) ≡ length (slotsOf h)

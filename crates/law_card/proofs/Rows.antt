@@ -36,7 +36,7 @@ use Rattle.transpose.specs.Answers.{unlessRefused, rowAnswer, preRow, postRow, 
 use Rattle.transpose.specs.declared.frame.FrameRow.{FrameRow}
 use Rattle.transpose.specs.declared.frame.PortData.{PortData}
 use Rattle.transpose.proofs.Judged.{row-judged, reachable}
-use Rattle.rows_run.specs.Run.{familyOf, ofPlayers, runRow, runCells, runLength, rowsRunRefusal, runAnswer, RowsOutcome}
+use Rattle.rows_run.specs.Run.{familyAt, ofPlayers, runRow, runCells, runLength, rowsRunRefusal, runAnswer, RowsOutcome}
 use Rattle.rows_run.specs.declared.run.Run.{Run}
 use Rattle.rows_run.proofs.Judged.{run-judged, running}
 use Rattle.law_card.specs.Card.{slotPort, columnPort, SameElsewhere, SamePlayers, SamePresence, CardApart, Agree, FrameApart, RowsApart}
@@ -200,16 +200,16 @@ module _ (f : Frames) (port : ℕ) (s : Lent) (pres posts : List ℕ) (p : SameE
   run-row-with DreamlandWhispy slot index l m ne = refl
   run-row-with StadiumTransformation slot index l m ne = refl
 
-  run-with : (number slot a b room : ℕ) → (ofPlayers (familyOf number) ≡ true → slotPort f slot ≡ port → ⊥) → rowsRunRefusal f s number slot a b room ≡ 0
-      → runCells f s (familyOf number) slot a b ≡ runCells f t (familyOf number) slot a b
+  run-with : (number slot a b room : ℕ) → (ofPlayers (familyAt number) ≡ true → slotPort f slot ≡ port → ⊥) → rowsRunRefusal f s number slot a b room ≡ 0
+      → runCells f s (familyAt number) slot a b ≡ runCells f t (familyAt number) slot a b
   run-with number slot a b room ne e =
       let r = running f s number slot a b room e in
-      ranged-same _ _ a (b - a) (λ i _ l. run-row-with (familyOf number) slot i (r .slot-in) (omega (arith, r .inside, r .range, l)) ne)
+      ranged-same _ _ a (b - a) (λ i _ l. run-row-with (familyAt number) slot i (r .slot-in) (omega (arith, r .inside, r .range, l)) ne)
 
 -- two calls for a run that are refused alike, and show the same cells where they are not
 run-outcome : {f h : Frames} {s t : Lent} (number slot a b : ℕ) {out first second : List ℕ} {q r : Run} → rowsRunRefusal f s number slot a b (length out) ≡ rowsRunRefusal h t number slot a b (length out)
-    → runLength f (familyOf number) a b ≡ runLength h (familyOf number) a b
-    → (rowsRunRefusal f s number slot a b (length out) ≡ 0 → runCells f s (familyOf number) slot a b ≡ runCells h t (familyOf number) slot a b)
+    → runLength f (familyAt number) a b ≡ runLength h (familyAt number) a b
+    → (rowsRunRefusal f s number slot a b (length out) ≡ 0 → runCells f s (familyAt number) slot a b ≡ runCells h t (familyAt number) slot a b)
     → RowsOutcome f s number slot a b out q first → RowsOutcome h t number slot a b out r second → (q ≡ r) × (first ≡ second)
 unfolding unlessRefused
 run-outcome {f} {h} {s} {t} number slot a b {out} {first} {second} e l same x y =
@@ -219,8 +219,8 @@ run-outcome {f} {h} {s} {t} number slot a b {out} {first} {second} e l same x y 
     shown n c = unlessRefused n (splice out 0 c) out
 
     go : (n : ℕ) → rowsRunRefusal f s number slot a b (length out) ≡ n
-        → shown (rowsRunRefusal f s number slot a b (length out)) (runCells f s (familyOf number) slot a b)
-        ≡ shown (rowsRunRefusal h t number slot a b (length out)) (runCells h t (familyOf number) slot a b)
+        → shown (rowsRunRefusal f s number slot a b (length out)) (runCells f s (familyAt number) slot a b)
+        ≡ shown (rowsRunRefusal h t number slot a b (length out)) (runCells h t (familyAt number) slot a b)
     go zero z = ap₂ shown e (same z)
     go (suc n) z = rw (← e, z)
 

@@ -17,7 +17,7 @@ use Rattle.game.specs.Stores.{Lent, Stores}
 use Rattle.game.specs.declared.Game.{Game}
 use Rattle.game.specs.declared.frames.Frames.{Frames}
 use Rattle.players.specs.Presence.{presentAt}
-use Rattle.rows_run.specs.Run.{familyOf, ofPlayers, RowsOutcome}
+use Rattle.rows_run.specs.Run.{familyAt, ofPlayers, RowsOutcome}
 use Rattle.rows_run.specs.declared.run.Run.{Run}
 use Rattle.transpose.specs.Ports.{noPortData}
 use Rattle.transpose.specs.Answers.{preRow, postRow, itemRow, fodPlatformRow, dreamlandWhispyRow, stadiumTransformationRow, frameRow}
@@ -140,5 +140,5 @@ pub record RowsApart (f h : Frames) (port : ℕ) (s t : Lent) : Type 0 where
   pub dreamland-whispy : (index : ℕ) → dreamlandWhispyRow f s index ≡ dreamlandWhispyRow h t index
   pub stadium-transformation : (index : ℕ) → stadiumTransformationRow f s index ≡ stadiumTransformationRow h t index
   pub frame : (index : ℕ) → FrameApart f port (frameRow f s index) (frameRow h t index)
-  pub run : (number slot a b : ℕ) → (ofPlayers (familyOf number) ≡ true → slotPort f slot ≡ port → ⊥) → {out first second : List ℕ} {q r : Run}
+  pub run : (number slot a b : ℕ) → (ofPlayers (familyAt number) ≡ true → slotPort f slot ≡ port → ⊥) → {out first second : List ℕ} {q r : Run}
       → RowsOutcome f s number slot a b out q first → RowsOutcome h t number slot a b out r second → (q ≡ r) × (first ≡ second)

@@ -1,4 +1,4 @@
--- What `read` takes passes the check, given document 01's table and a proper tail.
+-- What `read` takes, and not partly, passes the check, given document 01's table and a proper tail.
 -- Assumes nothing.
 use Prim.Native.Nat.{ℕ, zero, suc, _+_, _/_, _%_, _≤_}
 use mathlib.Core.Path.{_≡_, refl, sym, ap, subst, _∙_}
@@ -15,9 +15,8 @@ use Rattle.format.specs.Event.{codeOf}
 use Rattle.format.specs.File.{Ev, tableBytes, eventsBytes}
 use Rattle.format.specs.Mark.{yes as marked}
 use Rattle.format.specs.Refusal.{refuse}
-use Rattle.format.specs.Version.{acceptedOf, gteOf}
+use Rattle.format.specs.Version.{gteOf}
 use Rattle.format.specs.declared.event.Event.the-variants.{Payloads}
-use Rattle.format.specs.declared.version.Version.{Version}
 use Rattle.format.proofs.Refusals.{passed}
 use Rattle.format.proofs.Versions.{no-way}
 use Rattle.layout.specs.Payloads.{entriesOf}
@@ -37,9 +36,12 @@ use Rattle.read_judge.specs.Found.{versionOf, earlyRefusal, geckoSpan, Found}
 use Rattle.read_judge.specs.Inner.{Bytes, firstAt, WalkDone, Headed}
 use Rattle.read_judge.specs.declared.first.First.{First}
 use Rattle.read_judge.specs.declared.first.First.the-variants.{Opens, Other}
+use Rattle.read_judge.proofs.Accepted.{version-accepted, found-events}
 use Rattle.read_judge.proofs.Steps as laws
+use Rattle.newer_judge.specs.Opening.{openingRefusal}
+use Rattle.newer_judge.proofs.Opening.{opening-same, version-above}
 use Rattle.measure.specs.Game.{Kept, codesMark}
-use Rattle.measure.specs.Read.{ReadOutcome, early, none, big, short, found}
+use Rattle.measure.specs.Read.{partlyOf, ReadOutcome, early, none, big, short, found}
 use Rattle.measure.specs.declared.Opened.{Opened}
 use Rattle.law_sound.proofs.Read.{tail-is}
 use Rattle.law_sound.proofs.Whole as file
@@ -119,7 +121,7 @@ module _ (f : List ℕ) (bytes : Bytes f) (not-early : earlyRefusal f ≡ 0) whe
     sound-at (Opens v len) q =
         let h = headed (x .whole) in
         let y = laws.ready f spans first stop true h walk-done v len (Opens v len) q refl refl in
-        let same : startEvent (y .block) ∷ y .others ≡ es = sym (y .events-are) ∙ x .events-are in
+        let same : startEvent (y .block) ∷ y .others ≡ es = sym (y .events-are) ∙ found-events f not-early x in
         let here : drop first f ≡ eventsBytes es ++ drop stop f = y .covers .bytes-are ∙ ap (λ (l : List Ev). eventsBytes l ++ drop stop f) same in
         let long : stop ≡ first + length (eventsBytes es) = y .covers .long ∙ ap (λ (l : List Ev). first + length (eventsBytes l)) same in
         record {
@@ -127,16 +129,12 @@ module _ (f : List ℕ) (bytes : Bytes f) (not-early : earlyRefusal f ≡ 0) whe
           listed = listed;
           replay = x .replay;
           tail = drop stop f;
-          accepted = subst (λ (w : Version). acceptedOf w ≡ true) (y .version-is) (new-not (acceptedOf v) refl (λ a. laws.new-early f spans first stop true h walk-done v len (Opens v len) q refl a));
+          accepted = version-accepted f not-early;
           well = ascending-too (versionOf f) (x .replay) (x .readable .well);
           unlisted = unlisted;
           fits = file.fits f accepted (x .whole) bytes (tableFor (versionOf f) listed (x .replay)) table es here long;
           file-is = file.made f accepted (x .whole) bytes (tableFor (versionOf f) listed (x .replay)) table es here long;
         }
-      where
-        new-not : (b : Bool) → acceptedOf v ≡ b → (acceptedOf v ≡ false → earlyRefusal f ≡ 1) → acceptedOf v ≡ true
-        new-not true e n = e
-        new-not false e n = absurd (let z = n e in omega (arith, z, not-early))
 
     pub found-sound : ProperTail (drop stop f) → Sound f
     found-sound p = let e = sound-at (firstAt f spans first stop) refl in record { events = e; proper = subst ProperTail (tail-is f e) p }
@@ -154,21 +152,31 @@ unmarked true (suc span) blocks actual e m = no-way (sym (rw (lt-ltb 0 (suc span
 
 -- ---- the calls
 
+-- a file of an accepted version that `read` does not refuse before there is a replay is not refused by the check
+early-none : (f : List ℕ) → openingRefusal f ≡ 0 → partlyOf (versionOf f) ≡ 0 → earlyRefusal f ≡ 0
+early-none f o w = elim (ℕ-discrete (earlyRefusal f) 0) [
+  | yes e ↦ e
+  | no n ↦ elim (ℕ-discrete (earlyRefusal f) 1) [
+    | yes e ↦ absurd (let z : _≡_ {A = ℕ} 1 0 = ap (λ (b : Bool). cond b 0 1) (sym (version-above f e)) ∙ w in omega arith)
+    | no m ↦ sym (opening-same f n m) ∙ o
+  ]
+]
+
 module _ (f : List ℕ) (bytes : Bytes f) where
   -- the table is that of the version, the block's length and the codes that `read` answers
   abbrev Tabled : Opened → Type 0
   Tabled r = startsWith (tableBytes (entriesOf (r .game .frames .version) (r .places .«block_len») (marked (r .game .«codes_given»)) (r .game .«actual_size»))) (drop 15 f) ≡ true
 
-  read-sound : (given left : Kept) (r : Opened) → ReadOutcome f given r left → r .refused ≡ 0 → Tabled r → ProperTail (drop (stopOf f) f) → Sound f
+  read-sound : (given left : Kept) (r : Opened) → ReadOutcome f given r left → r .refused ≡ 0 → r .partly ≡ 0 → Tabled r → ProperTail (drop (stopOf f) f) → Sound f
   unfolding listedRight framesRead
-  read-sound given left r (early n e l) z t p = absurd (n (sym (ap (λ (o : Opened). o .refused) e) ∙ z))
-  read-sound given left r (none n x e l) z t p = absurd (omega (arith, ap (λ (o : Opened). o .refused) e, z))
-  read-sound given left r (big n x b e l) z t p = absurd (omega (arith, ap (λ (o : Opened). o .refused) e, z))
-  read-sound given left r (short n x b s e l) z t p = absurd (omega (arith, ap (λ (o : Opened). o .refused) e, z))
-  read-sound given left r (found n x b s e l) z t p =
+  read-sound given left r (early n e l) z w t p = absurd (n (sym (ap (λ (o : Opened). o .refused) e) ∙ z))
+  read-sound given left r (none n x e l) z w t p = absurd (omega (arith, ap (λ (o : Opened). o .refused) e, z))
+  read-sound given left r (big n x b e l) z w t p = absurd (omega (arith, ap (λ (o : Opened). o .refused) e, z))
+  read-sound given left r (short n x b s e l) z w t p = absurd (omega (arith, ap (λ (o : Opened). o .refused) e, z))
+  read-sound given left r (found n x b s e l) z w t p =
       let v = versionOf f in
-      found-sound f bytes n x (marked (codesMark f v)) (λ m. no-blocks (x .replay .codes) (unmarked (gteOf v 3 3) (geckoSpan f) (length (x .replay .codes)) (usedIn (x .replay .codes)) (x .listed) m)) (subst Tabled e t) p
+      found-sound f bytes (early-none f n (sym (ap (λ (o : Opened). o .partly) e) ∙ w)) x (marked (codesMark f v)) (λ m. no-blocks (x .replay .codes) (unmarked (gteOf v 3 3) (geckoSpan f) (length (x .replay .codes)) (usedIn (x .replay .codes)) (x .listed) m)) (subst Tabled e t) p
 
-  pub read-passes : (given left : Kept) (r : Opened) (c : Checked) → ReadOutcome f given r left → r .refused ≡ 0 → Tabled r → ProperTail (drop (stopOf f) f) → CheckOutcome f c
+  pub read-passes : (given left : Kept) (r : Opened) (c : Checked) → ReadOutcome f given r left → r .refused ≡ 0 → r .partly ≡ 0 → Tabled r → ProperTail (drop (stopOf f) f) → CheckOutcome f c
       → (c .refused ≡ 0) × (c .offset ≡ 0)
-  read-passes given left r c o z t p h = only f (c .refused) 0 (c .offset) 0 h (sound (read-sound given left r o z t p) refl refl)
+  read-passes given left r c o z w t p h = only f (c .refused) 0 (c .offset) 0 h (sound (read-sound given left r o z w t p) refl refl)

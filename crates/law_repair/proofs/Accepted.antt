@@ -28,6 +28,7 @@ use Rattle.de.specs.Cut.{eventAt, eventsRead}
 use Rattle.de.proofs.Runs.{run-stop}
 use Rattle.grammar.specs.Productions.{eventsOf, usedIn}
 use Rattle.grammar.specs.Readable.{Readable}
+use Rattle.known.specs.Known.{taken}
 use Rattle.read_outline.specs.Listed.{listedRight}
 use Rattle.read_judge.specs.Found.{opensWrong, versionSaid, earlyRefusal, tooBig}
 use Rattle.read_judge.specs.Inner.{Bytes, WalkDone}
@@ -239,7 +240,7 @@ module _ (g tail : List ℕ) (p : ℕ) (in-g : p ≤ length g) where
           found = record {
             replay = x .found .replay;
             whole = ends-h .1;
-            events-are = events-h ∙ x .found .events-are ∙ ap (λ (es : List Ev). eventsOf (versionSaid es) (x .found .replay)) (sym events-h);
+            events-are = ap (λ (es : List Ev). taken (versionSaid es) es) events-h ∙ x .found .events-are ∙ ap (λ (es : List Ev). eventsOf (versionSaid es) (x .found .replay)) (sym events-h);
             readable = subst (λ (es : List Ev). Readable (versionSaid es) (x .found .replay)) (sym events-h) (x .found .readable);
             listed = (λ i. listedRight (versionSaid (events-h i)) (spanOf 0x3D (table-h i)) (length (x .found .replay .codes)) (usedIn (x .found .replay .codes))) ∙ x .found .listed;
           };

@@ -17,6 +17,7 @@ use Rattle.format.specs.Refusal.{refuse, lowest}
 use Rattle.format.specs.Version.{acceptedOf}
 use Rattle.read_judge.specs.Found.{opensWrong, versionSaid, versionOf}
 use Rattle.read_judge.specs.Inner.{Bytes}
+use Rattle.newer_judge.proofs.Opening.{opening-none}
 use Rattle.measure.specs.Game.{Kept, keptRead}
 use Rattle.measure.specs.Read.{measuredIn, openedIn, keptShort, MeasureOutcome, ReadOutcome}
 use Rattle.measure.specs.Read.MeasureOutcome.{found as measure-found}
@@ -74,11 +75,11 @@ module _ (f : List ℕ) (bytes : Bytes f) where
 
 -- so `measure` answers with what it needs, and `read` gives its game where the stores are long enough
 pub measured : (f : List ℕ) (m : Measured) (x : Accepted f) → MeasureOutcome f m → m ≡ measuredIn f (x .found .replay)
-measured f m x o = only-measure f o (measure-found (x .early) (x .found) (x .small) refl)
+measured f m x o = only-measure f o (measure-found (opening-none f (x .early)) (x .found) (x .small) refl)
 
 pub opened : (f : List ℕ) (given : Kept) (r : Opened) (left : Kept) (x : Accepted f) → keptShort given (keptRead (versionOf f) (x .found .replay)) ≡ false → ReadOutcome f given r left
     → r ≡ openedIn f (x .found .replay)
-opened f given r left x enough o = only-read f given o (read-found (x .early) (x .found) (x .small) enough refl refl) .0
+opened f given r left x enough o = only-read f given o (read-found (opening-none f (x .early)) (x .found) (x .small) enough refl refl) .0
 
 -- ---- the length field is not looked at
 

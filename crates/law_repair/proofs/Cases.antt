@@ -10,7 +10,7 @@ use lib.ListN.{length, take, drop}
 use Rattle.wire.specs.Wire.{be, more, part, splice, ranged, keep}
 use Rattle.format.specs.Refusal.{oneOf}
 use Rattle.format.specs.File.{entriesBytes, tableBytes, eventsBytes, fileOf}
-use Rattle.format.specs.Version.{above, gteOf}
+use Rattle.format.specs.Version.{above, gteOf, acceptedOf}
 use Rattle.frames.specs.Judge.{tooMany}
 use Rattle.head.specs.Table.{startsWith, declared, stopOf}
 use Rattle.de.specs.Cut.{eventsRead, zeroed}
@@ -18,6 +18,7 @@ use Rattle.de.proofs.Opens.{opens-steps}
 use Rattle.grammar.specs.Productions.{startEvent, codesEvents, eventsOfFrames, eventsOf, usedIn, codesBytes}
 use Rattle.grammar.proofs.Tests.{both}
 use Rattle.columns.specs.Columns.{everIn, portColumns, rowsThere, framesRead}
+use Rattle.known.specs.Known.{taken}
 use Rattle.read_outline.specs.Listed.{listedRight}
 use Rattle.read_judge.specs.Found.{versionSaid, earlyRefusal}
 use Rattle.read_judge.specs.Inner.{Bytes}
@@ -39,7 +40,7 @@ unfolding opens-early
 early-zero = refl
 
 accepted : Accepted smallest
-unfolding opens-steps eventsRead versionSaid codesEvents eventsOfFrames eventsOf listedRight gteOf above usedIn tooMany oneOf framesRead rowsThere portColumns ranged everIn keep codesBytes
+unfolding opens-steps eventsRead versionSaid acceptedOf taken codesEvents eventsOfFrames eventsOf listedRight gteOf above usedIn tooMany oneOf framesRead rowsThere portColumns ranged everIn keep codesBytes
 accepted = record { early = early-zero; found = record { replay = empty; whole = refl; events-are = refl; readable = empty-readable; listed = refl }; small = refl }
 
 -- ---- its bytes are bytes
@@ -109,7 +110,7 @@ unfolding opens-early
 fixed-early = refl
 
 fixed-accepted : Accepted fixed
-unfolding opens-steps eventsRead versionSaid codesEvents eventsOfFrames eventsOf listedRight gteOf above usedIn tooMany oneOf framesRead rowsThere portColumns ranged everIn keep codesBytes
+unfolding opens-steps eventsRead versionSaid acceptedOf taken codesEvents eventsOfFrames eventsOf listedRight gteOf above usedIn tooMany oneOf framesRead rowsThere portColumns ranged everIn keep codesBytes
 fixed-accepted = record { early = fixed-early; found = record { replay = empty; whole = refl; events-are = refl; readable = empty-readable; listed = refl }; small = refl }
 
 fixed-bytes : Bytes fixed

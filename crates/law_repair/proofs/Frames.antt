@@ -27,6 +27,7 @@ use Rattle.law_tree.proofs.Same.{same}
 use Rattle.law_saved.specs.Admitted.{Admitted}
 use Rattle.law_saved.proofs.Found as in-file
 use Rattle.read_judge.specs.Found.{versionSaid, versionOf}
+use Rattle.read_judge.proofs.Accepted.{found-events}
 use Rattle.read_judge.specs.Inner.{Bytes, Covers}
 use Rattle.read_judge.proofs.Walked.{all-read, comes-to-end}
 use Rattle.repair_kept.specs.Kept.{endingAt, Accepted, ReplayUpTo, Longest}
@@ -112,11 +113,14 @@ module _ {g : Game} {s : Stores} (a : Admitted g s) (ended : hasFamily (g .frame
     abbrev x : Replay
     x = b .accepted .found .replay
 
+    all-are : eventsRead h ≡ eventsOf (versionOf h) x
+    all-are = found-events h (b .accepted .early) (b .accepted .found)
+
     pub version-is : versionOf h ≡ v
-    version-is = sym (same-version (versionOf h) x (eventsRead h) (begun .rest) (b .accepted .found .events-are)) ∙ ap versionSaid (sym (begun .is)) ∙ in-file.version-is a
+    version-is = sym (same-version (versionOf h) x (eventsRead h) (begun .rest) all-are) ∙ ap versionSaid (sym (begun .is)) ∙ in-file.version-is a
 
     events-x : eventsRead h ≡ eventsOf v x
-    events-x = b .accepted .found .events-are ∙ ap (λ (w : Version). eventsOf w x) version-is
+    events-x = all-are ∙ ap (λ (w : Version). eventsOf w x) version-is
 
     pub at-place : q ≡ firstPlace (entries g s) + length (eventsBytes (eventsOf v x))
     at-place = omega (arith, part .long, stop, first, ap firstPlace (in-file.table-is a), ap (λ (l : List Ev). length (eventsBytes l)) events-x)

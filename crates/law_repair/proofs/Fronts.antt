@@ -39,8 +39,9 @@ use Rattle.law_tree.proofs.Same.{same}
 use Rattle.law_saved.specs.Admitted.{Admitted}
 use Rattle.law_saved.proofs.Found as in-file
 use Rattle.read_outline.specs.Listed.{listedRight}
-use Rattle.read_judge.specs.Found.{opensWrong, versionSaid, versionOf, tooBig}
+use Rattle.read_judge.specs.Found.{opensWrong, versionSaid, versionOf, earlyRefusal, tooBig}
 use Rattle.read_judge.specs.Inner.{WalkDone}
+use Rattle.read_judge.proofs.Accepted.{version-accepted, all-taken}
 use Rattle.read_judge.proofs.Places as parts
 use Rattle.repair_kept.specs.Kept.{endingAt, Accepted, ReplayUpTo}
 use Rattle.law_repair.specs.Front.{upTo}
@@ -259,13 +260,16 @@ module _ {g : Game} {s : Stores} (a : Admitted g s) where
     table-is : tableOf h ≡ tableOf f
     table-is = parts.table-is t xs tail (fresh (in-file.p a)) fits ∙ sym (in-file.table-is a)
 
+    early-h : earlyRefusal h ≡ 0
+    early-h = early-by h done ∙ judged
+
     accepted-h : Accepted h
     accepted-h = record {
-      early = early-by h done ∙ judged;
+      early = early-h;
       found = record {
         replay = upTo r i j;
         whole = parts.whole t xs tail (fresh (in-file.p a)) fits;
-        events-are = read ∙ ap (λ (w : Version). eventsOf w (upTo r i j)) (sym version-is);
+        events-are = all-taken h (version-accepted h early-h) (upTo r i j) (read ∙ ap (λ (w : Version). eventsOf w (upTo r i j)) (sym version-is));
         readable = subst (λ (w : Version). Readable w (upTo r i j)) (sym version-is) (readable-front v r i j (in-file.readable a));
         listed =
             (λ k. listedRight ((version-is ∙ sym (in-file.version-is a)) k) (spanOf 0x3D (table-is k)) (length (r .codes)) (usedIn (r .codes)))

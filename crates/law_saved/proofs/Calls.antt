@@ -17,6 +17,7 @@ use Rattle.ser.proofs.Answered.{written-file}
 use Rattle.grammar.specs.Productions.{Replay}
 use Rattle.law_tree.specs.Tree.{replayOf}
 use Rattle.read_judge.specs.Found.{Found, versionOf, tooBig}
+use Rattle.read_judge.proofs.Accepted.{version-accepted}
 use Rattle.measure.specs.Game.{Kept, keptRead, lengthsOf, placesIn, gameRead}
 use Rattle.measure.specs.Read.{measuredIn, unopened, openedIn, keptShort, keptOver, MeasureOutcome, ReadOutcome, early, none, big, short, found}
 use Rattle.measure.specs.declared.Measured.{Measured}
@@ -53,10 +54,14 @@ module _ {g : Game} {s : Stores} (a : Admitted g s) where
   -- ---- measure and read
 
   pub measured : {m : Measured} → MeasureOutcome f m → m ≡ measuredIn f r
-  measured (early p e) = absurd (p (in-file.not-early a))
+  measured (early p e) = absurd (p (in-file.not-refused a))
   measured (none z p e) = absurd (p (in-file.found a))
   measured (big z x p e) = absurd (not-both p (not-big x))
   measured (found z x p e) = e ∙ ap (measuredIn f) (in-file.only a x)
+
+  -- all of it is known
+  pub not-partly : {m : Measured} → MeasureOutcome f m → m .partly ≡ 0
+  not-partly o = ap (λ (y : Measured). y .partly) (measured o) ∙ rw (version-accepted f (in-file.not-early a))
 
   no-store-short : {m : Measured} {given : Kept} → MeasureOutcome f m → LongEnough (m .lengths) given → keptShort given needed ≡ false
   no-store-short {m} {given} o l =
@@ -66,7 +71,7 @@ module _ {g : Game} {s : Stores} (a : Admitted g s) where
   module _ {m : Measured} {given : Kept} {x : Opened} {after : Kept} (o : MeasureOutcome f m) where
     -- stores that are as long as `measure` says take it
     pub opened : LongEnough (m .lengths) given → ReadOutcome f given x after → (x ≡ openedIn f r) × (after ≡ keptOver given needed)
-    opened l (early p e q) = absurd (p (in-file.not-early a))
+    opened l (early p e q) = absurd (p (in-file.not-refused a))
     opened l (none z p e q) = absurd (p (in-file.found a))
     opened l (big z y p e q) = absurd (not-both p (not-big y))
     opened l (short z y p h e q) = absurd (not-both h (ap (λ (t : Replay). keptShort given (keptRead (versionOf f) t)) (in-file.only a y) ∙ no-store-short o l))

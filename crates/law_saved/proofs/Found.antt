@@ -46,7 +46,10 @@ use Rattle.law_columns.proofs.Codes.{codes-returned}
 use Rattle.law_columns.proofs.Returned.{Given, given-of, all-shown, returned-judged}
 use Rattle.read_outline.specs.Listed.{listedRight}
 use Rattle.read_judge.specs.Found.{opensWrong, versionSaid, versionOf, earlyRefusal, geckoSpan, Found, tooBig}
+use Rattle.newer_judge.specs.Opening.{openingRefusal}
+use Rattle.newer_judge.proofs.Opening.{opening-none}
 use Rattle.law_saved.specs.Admitted.{Admitted}
+use Rattle.read_judge.proofs.Accepted.{version-accepted, all-taken}
 use Rattle.read_judge.proofs.Places as parts
 use Rattle.law_saved.proofs.Limits.{somebody-shows, changing-frames}
 use Rattle.law_saved.proofs.Listed.{span-is, listed-right}
@@ -137,6 +140,9 @@ module _ {g : Game} {s : Stores} (a : Admitted g s) where
   not-early =
       sym (skip _ _ _ _ (ap (λ (k : ℕ). eqb k 1) (walked .0)) (skip _ _ _ _ (ap opensWrong (uncut p .0) ∙ opens) (skip _ _ _ _ right-version none)))
 
+  pub not-refused : openingRefusal f ≡ 0
+  not-refused = opening-none f not-early
+
   -- ---- the replay
 
   pub well : WellFormed v ascending r
@@ -167,7 +173,7 @@ module _ {g : Game} {s : Stores} (a : Admitted g s) where
   found = record {
     replay = r;
     whole = whole;
-    events-are = uncut p .0 ∙ same g s ∙ ap (λ w. eventsOf w r) (sym version-is);
+    events-are = all-taken f (version-accepted f not-early) r (uncut p .0 ∙ same g s ∙ ap (λ w. eventsOf w r) (sym version-is));
     readable = subst (λ w. Readable w r) (sym version-is) readable;
     listed = listed-as;
   }

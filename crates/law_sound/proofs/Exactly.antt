@@ -315,8 +315,8 @@ module _ (f spans : List ℕ) (v : Version) (first stop len : ℕ) (s : Started 
     }
 
   -- the tests pass exactly where the block is sound, and then the walk is not refused
-  pub sound-tests : acceptedOf v ≡ true → (soundAt v f spans stop at len ≡ true) ↔ SoundEvents f
-  sound-tests a = (
-    λ e. let p = passed v f spans stop at len e in sound-events (ready (walked f spans v first stop len s p)) p a,
+  pub sound-tests : (soundAt v f spans stop at len ≡ true) ↔ SoundEvents f
+  sound-tests = (
+    λ e. let p = passed v f spans stop at len e in sound-events (ready (walked f spans v first stop len s p)) p (s .new-enough),
     λ x. passed-back v f spans stop at len (all-pass x),
   )

@@ -29,10 +29,11 @@ use Rattle.game.specs.Frames.{isMarked}
 use Rattle.measure.specs.Inner.{framesBy, lengthsBy, framesIn, lengthsIn, codesBy, endBy, Small, placesBy, shortBy}
 use Rattle.measure.specs.declared.lengths.Lengths.{Lengths}
 use Rattle.read_judge.specs.Found.{versionOf, geckoSpan}
-use Rattle.read_judge.specs.Inner.{Accepts, Tallied, EndAt, countsBy}
+use Rattle.read_judge.specs.Inner.{Tallied, EndAt, countsBy}
+use Rattle.newer_judge.specs.Inner.{Shows}
 use Rattle.read_judge.specs.declared.parts.Parts.{Parts}
 use Rattle.measure.specs.Game.{Kept, keptRead, lengthsOf, placesIn, codesMark, endRead}
-use Rattle.measure.specs.Read.{measuredIn, openedIn, keptShort}
+use Rattle.measure.specs.Read.{partlyOf, measuredIn, openedIn, keptShort}
 use Rattle.measure.specs.declared.Measured.{Measured}
 use Rattle.measure.specs.declared.Opened.{Opened}
 use Rattle.measure.specs.declared.Places.{Places}
@@ -72,18 +73,18 @@ codes-as v gecko b some e {c} h = sym (rw (sym e ∙ h, lt-ltb 0 gecko (omega ar
 
 -- ---- the parts
 
-module _ (f : List ℕ) (first stop : ℕ) (p : Parts) (a : Accepts f first stop p) where
+module _ (f : List ℕ) (first stop : ℕ) (p : Parts) (a : Shows f first stop p) where
   abbrev v : Version
   v = versionOf f
 
   abbrev r : Replay
-  r = a .holds .found .replay
+  r = a .shown .found .replay
 
   abbrev t : Tallied v (r .frames) (p .tally)
-  t = a .holds .tallied
+  t = a .shown .tallied
 
   pub codes-are : length (codesBytes (r .codes)) ≡ 512 * p .blocks
-  codes-are = codes-length v (r .codes) (a .holds .found .readable .well .codes) ∙ ap (λ (n : ℕ). 512 * n) (sym (a .holds .blocks-are))
+  codes-are = codes-length v (r .codes) (a .shown .found .readable .well .codes) ∙ ap (λ (n : ℕ). 512 * n) (sym (a .shown .blocks-are))
 
   counts-are : countsBy (p .tally) ≡ countsOf v (r .frames)
   counts-are = λ i. record { frames = t .frames i; items = t .items i; fods = t .fods i; whispys = t .whispys i; stadiums = t .stadiums i }
@@ -93,7 +94,7 @@ module _ (f : List ℕ) (first stop : ℕ) (p : Parts) (a : Accepts f first stop
 
   pub frames-in : framesIn p ≡ framesRead v (r .frames)
   unfolding framesIn
-  frames-in = ap (λ w. framesBy w (countsBy (p .tally)) (p .tally .slots)) (a .holds .version-is) ∙ frames-are (r .frames) (p .tally .slots) marks v (countsBy (p .tally)) counts-are
+  frames-in = ap (λ w. framesBy w (countsBy (p .tally)) (p .tally .slots)) (a .shown .version-is) ∙ frames-are (r .frames) (p .tally .slots) marks v (countsBy (p .tally)) counts-are
 
   few : Modest (framesRead v (r .frames)) × (length (codesBytes (r .codes)) ≤ 16777216) × (_≤_ 0 65535)
   few = counted (framesRead v (r .frames)) (length (codesBytes (r .codes))) 0 (a .small)
@@ -103,7 +104,7 @@ module _ (f : List ℕ) (first stop : ℕ) (p : Parts) (a : Accepts f first stop
     frames = omega (arith, t .frames, few .0 .frames);
     modest = subst Modest (sym frames-in) (few .0);
     codes = omega (arith, codes-are, few .1);
-    actual = omega (arith, a .holds .actual-is, a .holds .blocks-are, used-few v (r .codes) (a .holds .found .readable .well .codes), codes-are, few .1);
+    actual = omega (arith, a .shown .actual-is, a .shown .blocks-are, used-few v (r .codes) (a .shown .found .readable .well .codes), codes-are, few .1);
   }
 
   pub lengths-in : lengthsIn p ≡ lengthsOf (keptRead v r)
@@ -112,11 +113,14 @@ module _ (f : List ℕ) (first stop : ℕ) (p : Parts) (a : Accepts f first stop
 
   pub places-in : placesBy f first stop (p .«block_len») ≡ placesIn f r
   places-in =
-      ap₂ (λ (x y : ℕ). placesBy f x y (p .«block_len»)) (a .first-is) (a .stop-is) ∙ ap (λ (n : ℕ). placesBy f (firstPlace (tableOf f)) (stopOf f) n) (a .holds .block-len)
+      ap₂ (λ (x y : ℕ). placesBy f x y (p .«block_len»)) (a .first-is) (a .stop-is) ∙ ap (λ (n : ℕ). placesBy f (firstPlace (tableOf f)) (stopOf f) n) (a .shown .block-len)
 
   pub codes-mark : (gecko : ℕ) → gecko ≡ geckoSpan f → codesBy (p .version) gecko ≡ codesMark f v
   unfolding codesBy
-  codes-mark gecko e = ap₂ (λ w (n : ℕ). cond (gteOf w 3 3 && ltb 0 n) 1 0) (a .holds .version-is) e
+  codes-mark gecko e = ap₂ (λ w (n : ℕ). cond (gteOf w 3 3 && ltb 0 n) 1 0) (a .shown .version-is) e
+
+  partly-in : partlyOf (p .version) ≡ partlyOf v
+  partly-in = ap partlyOf (a .shown .version-is)
 
   -- the end
   first-of : (at : ℕ) (ends : List (List ℕ)) → EndAt f v at ends → cond (eqb (length ends) 0) noEnd (endIn v (part f at (endSize v))) ≡ endRead v ends
@@ -126,8 +130,8 @@ module _ (f : List ℕ) (first stop : ℕ) (p : Parts) (a : Accepts f first stop
   pub end-in : endBy f p ≡ endRead v (r .ends)
   unfolding endBy
   end-in =
-      ap₂ (λ (n : ℕ) w. cond (eqb n 0) noEnd (endIn w (part f (p .«ends_at» + 1) (endSize w)))) (a .holds .ends-are) (a .holds .version-is)
-      ∙ first-of (p .«ends_at» + 1) (r .ends) (a .holds .end-is)
+      ap₂ (λ (n : ℕ) w. cond (eqb n 0) noEnd (endIn w (part f (p .«ends_at» + 1) (endSize w)))) (a .shown .ends-are) (a .shown .version-is)
+      ∙ first-of (p .«ends_at» + 1) (r .ends) (a .shown .end-is)
 
   end-room-of : (at : ℕ) (ends : List (List ℕ)) → (length ends ≡ 0 → ⊥) → EndAt f v at ends → at + endSize v ≤ length f
   end-room-of at [] some h = absurd (some refl)
@@ -135,31 +139,32 @@ module _ (f : List ℕ) (first stop : ℕ) (p : Parts) (a : Accepts f first stop
 
   pub end-room : (p .ends ≡ 0 → ⊥) → p .«ends_at» + 1 + endSize (p .version) ≤ length f
   end-room some =
-      subst (λ w. p .«ends_at» + 1 + endSize w ≤ length f) (sym (a .holds .version-is))
-      (end-room-of (p .«ends_at» + 1) (r .ends) (λ z. some (a .holds .ends-are ∙ z)) (a .holds .end-is))
+      subst (λ w. p .«ends_at» + 1 + endSize w ≤ length f) (sym (a .shown .version-is))
+      (end-room-of (p .«ends_at» + 1) (r .ends) (λ z. some (a .shown .ends-are ∙ z)) (a .shown .end-is))
 
   -- what functions over the parts ask
   pub places-room : (stop ≤ length f) × (first + 1 ≤ length f)
-  places-room = (a .within, omega (arith, a .holds .block-in))
+  places-room = (a .within, omega (arith, a .shown .block-in))
 
   pub start-room : (lengthOf (p .version) ≤ p .«block_len») × (first + 1 + p .«block_len» ≤ length f)
-  start-room = (subst (λ w. lengthOf w ≤ p .«block_len») (sym (a .holds .version-is)) (a .holds .block-fits), a .holds .block-in)
+  start-room = (subst (λ w. lengthOf w ≤ p .«block_len») (sym (a .shown .version-is)) (a .shown .block-fits), a .shown .block-in)
 
   -- ---- the answers
 
   module _ (gecko : ℕ) (gecko-is : gecko ≡ geckoSpan f) (frames : Frames) (frames-is : frames ≡ framesIn p) (codes : ℕ) (codes-is : codes ≡ codesBy (p .version) gecko) (places : Places)
-      (places-is : places ≡ placesBy f first stop (p .«block_len»)) where
+      (places-is : places ≡ placesBy f first stop (p .«block_len»)) (partly : ℕ) (partly-is : partly ≡ partlyOf (p .version)) where
     pub measured-is : (lengths : Lengths) → lengths ≡ lengthsIn p
         → _≡_ {A = Measured}
-        (record { refused = 0; offset = 0; frames = frames; «codes_given» = codes; «actual_size» = p .actual; lengths = lengths; places = places })
+        (record { refused = 0; partly = partly; offset = 0; frames = frames; «codes_given» = codes; «actual_size» = p .actual; lengths = lengths; places = places })
         (measuredIn f r)
     measured-is lengths e =
         λ i. record {
           refused = 0;
+          partly = (partly-is ∙ partly-in) i;
           offset = 0;
           frames = (frames-is ∙ frames-in) i;
           «codes_given» = (codes-is ∙ codes-mark gecko gecko-is) i;
-          «actual_size» = a .holds .actual-is i;
+          «actual_size» = a .shown .actual-is i;
           lengths = (e ∙ lengths-in) i;
           places = (places-is ∙ places-in) i;
         }
@@ -169,6 +174,7 @@ module _ (f : List ℕ) (first stop : ℕ) (p : Parts) (a : Accepts f first stop
         → _≡_ {A = Opened}
         (record {
           refused = 0;
+          partly = partly;
           offset = 0;
           game = record { frames = frames; start = start; end = end; «double_end» = double; «codes_given» = codes; «metadata_given» = metadata; «actual_size» = p .actual };
           places = places;
@@ -177,15 +183,16 @@ module _ (f : List ℕ) (first stop : ℕ) (p : Parts) (a : Accepts f first stop
     opened-is start s end e double d metadata m =
         λ i. record {
           refused = 0;
+          partly = (partly-is ∙ partly-in) i;
           offset = 0;
           game = record {
             frames = (frames-is ∙ frames-in) i;
-            start = (s ∙ ap₂ startIn (a .holds .version-is) (a .holds .block-is)) i;
+            start = (s ∙ ap₂ startIn (a .shown .version-is) (a .shown .block-is)) i;
             end = (e ∙ end-in) i;
-            «double_end» = (d ∙ ap (λ (n : ℕ). cond (eqb n 2) 1 0) (a .holds .ends-are)) i;
+            «double_end» = (d ∙ ap (λ (n : ℕ). cond (eqb n 2) 1 0) (a .shown .ends-are)) i;
             «codes_given» = (codes-is ∙ codes-mark gecko gecko-is) i;
             «metadata_given» = (m ∙ ap (λ (q : Places). cond (eqb (q .tail) 1) 1 0) (places-is ∙ places-in)) i;
-            «actual_size» = a .holds .actual-is i;
+            «actual_size» = a .shown .actual-is i;
           };
           places = (places-is ∙ places-in) i;
         }

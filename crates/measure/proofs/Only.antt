@@ -7,7 +7,8 @@ use Prim.Native.Nat.{ℕ}
 use Rattle.grammar.specs.Productions.{Replay}
 use Rattle.grammar.specs.WellFormed.{ascending}
 use Rattle.grammar.proofs.Unique.{unique}
-use Rattle.read_judge.specs.Found.{Found, versionOf, earlyRefusal, refusalOffset, tooBig}
+use Rattle.read_judge.specs.Found.{Found, versionOf, refusalOffset, tooBig}
+use Rattle.newer_judge.specs.Opening.{openingRefusal}
 use Rattle.measure.specs.Game.{Kept, keptRead}
 use Rattle.measure.specs.Read.{unmeasured, measuredIn, unopened, openedIn, keptShort, keptOver, MeasureOutcome, ReadOutcome, early, none, big, short, found}
 use Rattle.measure.specs.declared.Measured.{Measured}
@@ -41,19 +42,19 @@ module _ (f : List ℕ) where
   measured-small : (x y : Found f) {m : Measured} → tooBig (versionOf f) (y .replay) ≡ false → m ≡ measuredIn f (y .replay) → m ≡ measuredOf (x .replay)
   measured-small x y small e = e ∙ sym (ap measuredOf (one-found x y) ∙ ap (λ (b : Bool). cond b (unmeasured 2 0) (measuredIn f (y .replay))) small)
 
-  measure-early : {m : Measured} → (earlyRefusal f ≡ 0 → ⊥) → MeasureOutcome f m → m ≡ unmeasured (earlyRefusal f) (refusalOffset f)
+  measure-early : {m : Measured} → (openingRefusal f ≡ 0 → ⊥) → MeasureOutcome f m → m ≡ unmeasured (openingRefusal f) (refusalOffset f)
   measure-early n (early p e) = e
   measure-early n (none z p e) = absurd (n z)
   measure-early n (big z y p e) = absurd (n z)
   measure-early n (found z y p e) = absurd (n z)
 
-  measure-none : {m : Measured} → earlyRefusal f ≡ 0 → (Found f → ⊥) → MeasureOutcome f m → m ≡ unmeasured 19 0
+  measure-none : {m : Measured} → openingRefusal f ≡ 0 → (Found f → ⊥) → MeasureOutcome f m → m ≡ unmeasured 19 0
   measure-none z n (early p e) = absurd (p z)
   measure-none z n (none p q e) = e
   measure-none z n (big p y q e) = absurd (n y)
   measure-none z n (found p y q e) = absurd (n y)
 
-  measure-found : {m : Measured} → earlyRefusal f ≡ 0 → (x : Found f) → MeasureOutcome f m → m ≡ measuredOf (x .replay)
+  measure-found : {m : Measured} → openingRefusal f ≡ 0 → (x : Found f) → MeasureOutcome f m → m ≡ measuredOf (x .replay)
   measure-found z x (early p e) = absurd (p z)
   measure-found z x (none p q e) = absurd (q x)
   measure-found z x (big p y q e) = measured-big x y q e
@@ -85,21 +86,21 @@ module _ (f : List ℕ) where
     opened-big : (x y : Found f) {r : Opened} {k : Kept} → tooBig (versionOf f) (y .replay) ≡ true → both r k ≡ both (unopened 2 0) given → both r k ≡ openedOf (x .replay)
     opened-big x y a e = e ∙ sym (ap openedOf (one-found x y) ∙ (λ i. chosen (y .replay) (a i) (shortOf (y .replay))))
 
-    read-early : {r : Opened} {k : Kept} → (earlyRefusal f ≡ 0 → ⊥) → ReadOutcome f given r k → both r k ≡ both (unopened (earlyRefusal f) (refusalOffset f)) given
+    read-early : {r : Opened} {k : Kept} → (openingRefusal f ≡ 0 → ⊥) → ReadOutcome f given r k → both r k ≡ both (unopened (openingRefusal f) (refusalOffset f)) given
     read-early n (early p e g) = pair e g
     read-early n (none z p e g) = absurd (n z)
     read-early n (big z y p e g) = absurd (n z)
     read-early n (short z y p q e g) = absurd (n z)
     read-early n (found z y p q e g) = absurd (n z)
 
-    read-none : {r : Opened} {k : Kept} → earlyRefusal f ≡ 0 → (Found f → ⊥) → ReadOutcome f given r k → both r k ≡ both (unopened 19 0) given
+    read-none : {r : Opened} {k : Kept} → openingRefusal f ≡ 0 → (Found f → ⊥) → ReadOutcome f given r k → both r k ≡ both (unopened 19 0) given
     read-none z n (early p e g) = absurd (p z)
     read-none z n (none p q e g) = pair e g
     read-none z n (big p y q e g) = absurd (n y)
     read-none z n (short p y q s e g) = absurd (n y)
     read-none z n (found p y q s e g) = absurd (n y)
 
-    read-found : {r : Opened} {k : Kept} → earlyRefusal f ≡ 0 → (x : Found f) → ReadOutcome f given r k → both r k ≡ openedOf (x .replay)
+    read-found : {r : Opened} {k : Kept} → openingRefusal f ≡ 0 → (x : Found f) → ReadOutcome f given r k → both r k ≡ openedOf (x .replay)
     read-found z x (early p e g) = absurd (p z)
     read-found z x (none p q e g) = absurd (q x)
     read-found z x (big p y q e g) = opened-big x y q (pair e g)

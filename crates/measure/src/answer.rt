@@ -6,8 +6,8 @@ ghost use lib.Dec.{eqb};
 ghost use lib.ListN.{length};
 ghost use Rattle.layout.specs.Payloads.{endSize};
 ghost use Rattle.read_judge.specs.Found.{geckoSpan};
-ghost use Rattle.read_judge.specs.Inner.{Accepts};
-ghost use Rattle.measure.specs.Read.{measuredIn, openedIn, unmeasured, unopened};
+ghost use Rattle.newer_judge.specs.Inner.{Shows};
+ghost use Rattle.measure.specs.Read.{partlyOf, measuredIn, openedIn, unmeasured, unopened};
 ghost use Rattle.measure.specs.Inner.{framesIn, lengthsIn, codesBy, endBy, Small};
 use super::Measured;
 use super::Opened;
@@ -64,6 +64,16 @@ fn mark(a: usize, b: usize) -> u8
     0
 }
 
+// The mark of a newer recorder's file.
+fn partly_by(v: Version) -> u8
+    ensures { λ r. ⌜ r ≡ partlyOf v ⌝ }
+{
+    if v.accepted() {
+        return 0;
+    }
+    1
+}
+
 // What the first end says, where there is one.
 fn end_by(file: &[u8], p: Parts) -> End
     requires { ⌜ ((p .ends ≡ 0 → ⊥) → p .«ends_at» + 1 + endSize (p .version) ≤ length (now file)) ⌝ }
@@ -77,11 +87,12 @@ fn end_by(file: &[u8], p: Parts) -> End
 
 // What a file needs that holds these parts.
 pub fn measured(file: &[u8], gecko: usize, first: usize, stop: usize, p: Parts) -> Measured
-    requires { ⌜ (gecko ≡ geckoSpan (now file)) × Accepts (now file) first stop p ⌝ }
-    ensures { λ r. ⌜ ((a : Accepts (now (file .entry)) first stop p) → r ≡ measuredIn (now (file .entry)) (a .holds .found .replay)) ⌝ }
+    requires { ⌜ (gecko ≡ geckoSpan (now file)) × Shows (now file) first stop p ⌝ }
+    ensures { λ r. ⌜ ((a : Shows (now (file .entry)) first stop p) → r ≡ measuredIn (now (file .entry)) (a .shown .found .replay)) ⌝ }
 {
     Measured {
         refused: 0,
+        partly: partly_by(p.version),
         offset: 0,
         frames: frames_in(p),
         codes_given: codes_by(p.version, gecko),
@@ -93,8 +104,8 @@ pub fn measured(file: &[u8], gecko: usize, first: usize, stop: usize, p: Parts) 
 
 // The game of a file that holds these parts.
 pub fn opened(file: &[u8], gecko: usize, first: usize, stop: usize, p: Parts) -> Opened
-    requires { ⌜ (gecko ≡ geckoSpan (now file)) × Accepts (now file) first stop p ⌝ }
-    ensures { λ r. ⌜ ((a : Accepts (now (file .entry)) first stop p) → r ≡ openedIn (now (file .entry)) (a .holds .found .replay)) ⌝ }
+    requires { ⌜ (gecko ≡ geckoSpan (now file)) × Shows (now file) first stop p ⌝ }
+    ensures { λ r. ⌜ ((a : Shows (now (file .entry)) first stop p) → r ≡ openedIn (now (file .entry)) (a .shown .found .replay)) ⌝ }
 {
     let at = places(file, first, stop, p.block_len);
     let start = read_start::start_in(file, first + 1, p.block_len, p.version);
@@ -109,6 +120,7 @@ pub fn opened(file: &[u8], gecko: usize, first: usize, stop: usize, p: Parts) ->
     };
     Opened {
         refused: 0,
+        partly: partly_by(p.version),
         offset: 0,
         game,
         places: at,
@@ -121,6 +133,7 @@ pub fn not_measured(number: u8, offset: usize) -> Measured
 {
     Measured {
         refused: number,
+        partly: 0,
         offset,
         frames: no_frames(),
         codes_given: 0,
@@ -135,6 +148,7 @@ pub fn not_opened(number: u8, offset: usize) -> Opened
 {
     Opened {
         refused: number,
+        partly: 0,
         offset,
         game: no_game(),
         places: no_places(),

@@ -20,10 +20,11 @@ pub struct Places {
     pub metadata_len: usize,
 }
 
-// What `read` needs, or why it refuses. A field that an answer lacks is 0.
+// What `read` needs, or why it refuses; and whether only a part of it is known, as of a newer recorder's file. A field that an answer lacks is 0.
 #[repr(C)]
 pub struct Measured {
     pub refused: u8,
+    pub partly: u8,
     pub offset: usize,
     pub frames: Frames,
     pub codes_given: u8,
@@ -36,6 +37,7 @@ pub struct Measured {
 #[repr(C)]
 pub struct Opened {
     pub refused: u8,
+    pub partly: u8,
     pub offset: usize,
     pub game: Game,
     pub places: Places,

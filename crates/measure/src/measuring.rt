@@ -1,5 +1,5 @@
 // What a file needs to be read.
-ghost use Rattle.read_judge.specs.Inner.{Accepts};
+ghost use Rattle.newer_judge.specs.Inner.{Shows};
 ghost use Rattle.measure.specs.Read.{MeasureOutcome};
 use super::Measured;
 use super::answer::measured;
@@ -10,7 +10,7 @@ use read_judge::parts::Parts;
 
 // Of a file that holds these parts.
 fn measure_held(file: &[u8], first: usize, stop: usize, p: Parts) -> Measured
-    requires { ⌜ Accepts (now file) first stop p ⌝ }
+    requires { ⌜ Shows (now file) first stop p ⌝ }
     ensures { λ r. ⌜ MeasureOutcome (now (file .entry)) r ⌝ }
 {
     let gecko = gecko_span(file, first);
@@ -21,7 +21,7 @@ fn measure_held(file: &[u8], first: usize, stop: usize, p: Parts) -> Measured
 pub fn measure(file: &[u8]) -> Measured
     ensures { λ r. ⌜ MeasureOutcome (now (file .entry)) r ⌝ }
 {
-    let v = read_judge::judge(file);
+    let v = newer_judge::judge(file);
     match v {
         Verdict::Refused { number, offset } => not_measured(number, offset),
         Verdict::Held { first, stop, parts } => measure_held(file, first, stop, parts),

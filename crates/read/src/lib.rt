@@ -39,7 +39,7 @@ pub fn read(
         (offsets (now («item_offsets» .exit)) (now («fod_offsets» .exit)) (now («whispy_offsets» .exit)) (now («stadium_offsets» .exit)))
         (now (presence .exit))) (now (codes .exit))) ⌝ }
 {
-    let v = read_judge::judge(file);
+    let v = newer_judge::judge(file);
     match v {
         Verdict::Refused { number, offset } => not_opened(number, offset),
         Verdict::Held { first, stop, parts } => read_held(

@@ -31,6 +31,7 @@ use Rattle.law_filled.proofs.Bits.{presence-left}
 use Rattle.law_filled.proofs.Uneven.{uneven-not}
 use Rattle.read_judge.specs.Found.{versionOf}
 use Rattle.read_judge.specs.Inner.{Accepts}
+use Rattle.newer_judge.proofs.Steps.{held-tells}
 use Rattle.read_judge.specs.declared.parts.Parts.{Parts}
 use Rattle.measure.specs.Game.{Kept, kept, keptRead, lengthsOf}
 use Rattle.measure.specs.Read.{laidOver, keptOver}
@@ -48,13 +49,13 @@ module _ (f : List ℕ) (first stop : ℕ) (p : Parts) (a : Accepts f first stop
 
   -- the frames stand where the parts say
   pub stands : Stands (framesIn p) f (p .«frames_at») (p .«ends_at») (r .frames)
-  stands = subst (λ (g : Frames). Stands g f (p .«frames_at») (p .«ends_at») (r .frames)) (sym (frames-in f first stop p a)) stands-read
+  stands = subst (λ (g : Frames). Stands g f (p .«frames_at») (p .«ends_at») (r .frames)) (sym (frames-in f first stop p (held-tells f first stop p a))) stands-read
 
   pub some-spelled : SomeSpelled (planOf (framesIn p)) f (p .«frames_at») (p .«ends_at»)
   some-spelled = record { events = eventsOfFrames (framesIn p .version) (r .frames); spelled = spelled (framesIn p) f (p .«frames_at») (p .«ends_at») (r .frames) stands }
 
   pub even : portsUneven (framesIn p) ≡ false
-  even = ap portsUneven (frames-in f first stop p a) ∙ uneven-not (versionOf f) (r .frames)
+  even = ap portsUneven (frames-in f first stop p (held-tells f first stop p a)) ∙ uneven-not (versionOf f) (r .frames)
 
   -- the bytes of the codes
   pub codes-over : (before after : List ℕ) → after ≡ splice before 0 (ranged (λ b. part f (p .«codes_at» + 517 * b + 1) 512) 0 (p .blocks)) → after ≡ laidOver before (codesBytes (r .codes))
@@ -124,64 +125,64 @@ module _ (g : Frames) (given : Kept) (codes : ℕ) (m : Modest g) (e : shortBy (
       let (last, e15) = one-passed _ _ e14 in
       ltb-false _ _ last
 
--- what the pass and the copy of the codes leave is what is read, over what was there
+-- what the pass over the events of frames and the copy of codes leave is what is read, over what was there
+pub left-by : (g : Frames) (file : List ℕ) (first stop : ℕ) (fs : List Frame) → Stands g file first stop fs → Modest g → (before after : Lent) (codes codes′ bytes : List ℕ)
+    → Rooms (planOf g) before → after ≡ run (planOf g) (eventsOfFrames (g .version) fs) none (cleared g before) → codes′ ≡ laidOver codes bytes
+    → kept after codes′ ≡ keptOver (kept before codes) (kept (lentRead (g .version) fs) bytes)
+unfolding keptOver lentRead
+left-by g file first stop fs s m before after codes codes′ bytes room ran copied =
+    λ i. kept
+    (lent
+    (cells
+    ((ap (λ (l : Lent). l .cells .ids) ran ∙ ids-left g file first stop fs before s room m) i)
+    ((ap (λ (l : Lent). l .cells .starts) ran ∙ starts-left g file first stop fs before s room m) i)
+    ((ap (λ (l : Lent). l .cells .pres) ran ∙ pres-left g file first stop fs before s room m) i)
+    ((ap (λ (l : Lent). l .cells .posts) ran ∙ posts-left g file first stop fs before s room m) i)
+    ((ap (λ (l : Lent). l .cells .ends) ran ∙ ends-left g file first stop fs before s room m) i)
+    ((ap (λ (l : Lent). l .cells .items) ran ∙ items-left g file first stop fs before s room m) i)
+    ((ap (λ (l : Lent). l .cells .fods) ran ∙ fods-left g file first stop fs before s room m) i)
+    ((ap (λ (l : Lent). l .cells .whispys) ran ∙ whispys-left g file first stop fs before s room m) i)
+    ((ap (λ (l : Lent). l .cells .stadiums) ran ∙ stadiums-left g file first stop fs before s room m) i))
+    (offsets
+    ((ap (λ (l : Lent). l .offsets .items) ran ∙ item-offsets-left g file first stop fs before s room m) i)
+    ((ap (λ (l : Lent). l .offsets .fods) ran ∙ fod-offsets-left g file first stop fs before s room m) i)
+    ((ap (λ (l : Lent). l .offsets .whispys) ran ∙ whispy-offsets-left g file first stop fs before s room m) i)
+    ((ap (λ (l : Lent). l .offsets .stadiums) ran ∙ stadium-offsets-left g file first stop fs before s room m) i))
+    ((ap (λ (l : Lent). l .presence) ran ∙ presence-left g file first stop fs before s room m) i))
+    (copied i)
+
 module _ (f : List ℕ) (first stop : ℕ) (p : Parts) (a : Accepts f first stop p) (before after : Lent) (codes codes′ : List ℕ) (room : Rooms (planOf (framesIn p)) before)
     (ran : after ≡ run (planOf (framesIn p)) (eventsOfFrames (framesIn p .version) (a .holds .found .replay .frames)) none (cleared (framesIn p) before))
     (copied : codes′ ≡ laidOver codes (codesBytes (a .holds .found .replay .codes))) where
   abbrev fs : List Frame
   fs = a .holds .found .replay .frames
 
-  abbrev g : Frames
-  g = framesIn p
-
-  version-is : g .version ≡ versionOf f
+  version-is : framesIn p .version ≡ versionOf f
   unfolding framesRead
-  version-is = ap (λ (x : Frames). x .version) (frames-in f first stop p a)
-
-  left-so : kept after codes′ ≡ keptOver (kept before codes) (kept (lentRead (g .version) fs) (codesBytes (a .holds .found .replay .codes)))
-  unfolding keptOver lentRead
-  left-so =
-      let s = stands f first stop p a in
-      let m = small f first stop p a .modest in
-      λ i. kept
-      (lent
-      (cells
-      ((ap (λ (l : Lent). l .cells .ids) ran ∙ ids-left g f (p .«frames_at») (p .«ends_at») fs before s room m) i)
-      ((ap (λ (l : Lent). l .cells .starts) ran ∙ starts-left g f (p .«frames_at») (p .«ends_at») fs before s room m) i)
-      ((ap (λ (l : Lent). l .cells .pres) ran ∙ pres-left g f (p .«frames_at») (p .«ends_at») fs before s room m) i)
-      ((ap (λ (l : Lent). l .cells .posts) ran ∙ posts-left g f (p .«frames_at») (p .«ends_at») fs before s room m) i)
-      ((ap (λ (l : Lent). l .cells .ends) ran ∙ ends-left g f (p .«frames_at») (p .«ends_at») fs before s room m) i)
-      ((ap (λ (l : Lent). l .cells .items) ran ∙ items-left g f (p .«frames_at») (p .«ends_at») fs before s room m) i)
-      ((ap (λ (l : Lent). l .cells .fods) ran ∙ fods-left g f (p .«frames_at») (p .«ends_at») fs before s room m) i)
-      ((ap (λ (l : Lent). l .cells .whispys) ran ∙ whispys-left g f (p .«frames_at») (p .«ends_at») fs before s room m) i)
-      ((ap (λ (l : Lent). l .cells .stadiums) ran ∙ stadiums-left g f (p .«frames_at») (p .«ends_at») fs before s room m) i))
-      (offsets
-      ((ap (λ (l : Lent). l .offsets .items) ran ∙ item-offsets-left g f (p .«frames_at») (p .«ends_at») fs before s room m) i)
-      ((ap (λ (l : Lent). l .offsets .fods) ran ∙ fod-offsets-left g f (p .«frames_at») (p .«ends_at») fs before s room m) i)
-      ((ap (λ (l : Lent). l .offsets .whispys) ran ∙ whispy-offsets-left g f (p .«frames_at») (p .«ends_at») fs before s room m) i)
-      ((ap (λ (l : Lent). l .offsets .stadiums) ran ∙ stadium-offsets-left g f (p .«frames_at») (p .«ends_at») fs before s room m) i))
-      ((ap (λ (l : Lent). l .presence) ran ∙ presence-left g f (p .«frames_at») (p .«ends_at») fs before s room m) i))
-      (copied i)
+  version-is = ap (λ (x : Frames). x .version) (frames-in f first stop p (held-tells f first stop p a))
 
   pub all-left : kept after codes′ ≡ keptOver (kept before codes) (keptRead (versionOf f) (a .holds .found .replay))
-  all-left = left-so ∙ ap (λ (w : Version). keptOver (kept before codes) (kept (lentRead w fs) (codesBytes (a .holds .found .replay .codes)))) version-is
+  all-left =
+      left-by (framesIn p) f (p .«frames_at») (p .«ends_at») fs (stands f first stop p a) (small f first stop p (held-tells f first stop p a) .modest) before after codes codes′
+      (codesBytes (a .holds .found .replay .codes)) room ran copied
+      ∙ ap (λ (w : Version). keptOver (kept before codes) (kept (lentRead w fs) (codesBytes (a .holds .found .replay .codes)))) version-is
 
 -- ---- as the code asks and learns it: the frame input is worked out first
 
 module _ (f : List ℕ) (first stop : ℕ) (p : Parts) (a : Accepts f first stop p) (given : Kept) (long : shortBy (lengthsOf given) (lengthsIn p) ≡ false) where
   room-for : Rooms (planOf (framesIn p)) (given .lent)
   unfolding lengthsIn
-  room-for = rooms (framesIn p) given (512 * p .blocks) (small f first stop p a .modest) long
+  room-for = rooms (framesIn p) given (512 * p .blocks) (small f first stop p (held-tells f first stop p a) .modest) long
 
   pub asked : (g : Frames) → g ≡ framesIn p
       → Modest g × (portsUneven g ≡ false) × SomeSpelled (planOf g) f (p .«frames_at») (p .«ends_at») × Rooms (planOf g) (given .lent)
   asked g e =
       subst (λ (x : Frames). Modest x × (portsUneven x ≡ false) × SomeSpelled (planOf x) f (p .«frames_at») (p .«ends_at») × Rooms (planOf x) (given .lent)) (sym e)
-      (small f first stop p a .modest, even f first stop p a, some-spelled f first stop p a, room-for)
+      (small f first stop p (held-tells f first stop p a) .modest, even f first stop p a, some-spelled f first stop p a, room-for)
 
   pub codes-asked : (p .«codes_at» + 517 * p .blocks ≤ length f) × (512 * p .blocks ≤ length (given .codes))
   unfolding lengthsIn
-  codes-asked = (a .holds .codes-in, codes-room (framesIn p) given (512 * p .blocks) (small f first stop p a .modest) long)
+  codes-asked = (a .holds .codes-in, codes-room (framesIn p) given (512 * p .blocks) (small f first stop p (held-tells f first stop p a) .modest) long)
 
 pub learnt : (f : List ℕ) (first stop : ℕ) (p : Parts) (a : Accepts f first stop p) (given : Kept) → shortBy (lengthsOf given) (lengthsIn p) ≡ false → (after : Lent) (codes′ : List ℕ) (g : Frames) → g ≡ framesIn p
     → ((es : List Ev) → Spelled (planOf g) f (p .«frames_at») (p .«ends_at») es → after ≡ run (planOf g) es none (cleared g (given .lent)))

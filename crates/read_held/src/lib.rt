@@ -1,6 +1,6 @@
 // The game of a file that holds a replay, into lent stores that may be too short.
 ghost use Rattle.game.specs.Stores.{lent, cells, offsets};
-ghost use Rattle.read_judge.specs.Inner.{Accepts};
+ghost use Rattle.newer_judge.specs.Inner.{Shows};
 ghost use Rattle.measure.specs.Game.{kept};
 ghost use Rattle.measure.specs.Read.{ReadOutcome};
 use format::refusal::SHORT_OUTPUT;
@@ -11,7 +11,7 @@ use measure::answer::opened;
 use measure::lengths::Lengths;
 use measure::short::short;
 use measure::tail::gecko_span;
-use read_fill::read_into;
+use newer_read::read_shown;
 use read_judge::parts::Parts;
 
 // Of a file that holds these parts: 12 where a store is too short.
@@ -36,7 +36,7 @@ pub fn read_held(
     presence: &mut [u8],
     codes: &mut [u8],
 ) -> Opened
-    requires { ⌜ Accepts (now file) first stop p ⌝ }
+    requires { ⌜ Shows (now file) first stop p ⌝ }
     ensures { λ r. ⌜ ReadOutcome (now (file .entry))
         (kept (lent
         (cells (now (ids .entry)) (now (starts .entry)) (now (pres .entry)) (now (posts .entry)) (now (ends .entry))
@@ -70,7 +70,7 @@ pub fn read_held(
     if short(given, lengths_in(p)) {
         return not_opened(SHORT_OUTPUT, 0);
     }
-    read_into(
+    read_shown(
         file,
         first,
         stop,

@@ -7,6 +7,7 @@ use mathlib.Core.List.{List}
 use mathlib.Core.Option.{none, some}
 use lib.ListN.{getD}
 use Rattle.wire.specs.Wire.{part}
+use Rattle.format.specs.Version.{acceptedOf}
 use Rattle.format.specs.declared.version.Version.{Version}
 use Rattle.grammar.specs.WellFormed.{ascending}
 use Rattle.grammar.specs.Machine.{initial}
@@ -42,13 +43,16 @@ module _ (f spans : List ℕ) (v : Version) (first stop len : ℕ) (s : Started 
   for-file : (P : Version → Type 0) (k : WalkDone f) → P v → P (versionOf f)
   for-file P k p = subst P (once-walked k .version-is) p
 
+  new : (k : WalkDone f) → acceptedOf (versionOf f) ≡ true
+  new k = for-file (λ w. acceptedOf w ≡ true) k (s .new-enough)
+
   pub start-wrong : (b : Bool) → b ≡ startFits v (part f (first + 1) len) → not b ≡ true → WalkDone f → Found f → ⊥
   start-wrong b b-is t k x =
-      start-fails f spans v first stop len (once-walked k) x (for-file (λ w. startFits w (part f (first + 1) len) ≡ false) k (sym b-is ∙ not-taken b t))
+      start-fails f spans v first stop len (once-walked k) (new k) x (for-file (λ w. startFits w (part f (first + 1) len) ≡ false) k (sym b-is ∙ not-taken b t))
 
   module _ (c : Codes) (c-is : c ≡ codesAt v f spans at stop) where
     pub codes-wrong : c ≡ codes.Wrong → WalkDone f → Found f → ⊥
-    codes-wrong e k x = codes-fail f spans v first stop len (once-walked k) x (for-file (λ w. codesAt w f spans at stop ≡ codes.Wrong) k (sym c-is ∙ e))
+    codes-wrong e k x = codes-fail f spans v first stop len (once-walked k) (new k) x (for-file (λ w. codesAt w f spans at stop ≡ codes.Wrong) k (sym c-is ∙ e))
 
     module _ (place blocks actual : ℕ) (c-told : c ≡ codes.Ended place blocks actual) where
       pub place-within : place ≤ stop
@@ -59,13 +63,13 @@ module _ (f spans : List ℕ) (v : Version) (first stop len : ℕ) (s : Started 
 
       pub listed-wrong : (b : Bool) → b ≡ listedRight v (getD spans 0x3D 0) blocks actual → not b ≡ true → WalkDone f → Found f → ⊥
       listed-wrong b b-is t k x =
-          listed-fails f spans v first stop len (once-walked k) x place blocks actual (answer k)
+          listed-fails f spans v first stop len (once-walked k) (new k) x place blocks actual (answer k)
           (for-file (λ w. listedRight w (getD spans 0x3D 0) blocks actual ≡ false) k (sym b-is ∙ not-taken b t))
 
       module _ (r : Ran) (r-is : ranOf r ≡ scan v ascending f spans stop (suc stop) place initial) (t-is : tallyIn r ≡ tallied v ascending f spans stop (suc stop) place initial noTally) where
         pub frames-wrong : r ≡ ran.Wrong → WalkDone f → Found f → ⊥
         frames-wrong e k x =
-            frames-fail f spans v first stop len (once-walked k) x place blocks actual (answer k)
+            frames-fail f spans v first stop len (once-walked k) (new k) x place blocks actual (answer k)
             (for-file (λ w. scan w ascending f spans stop (suc stop) place initial ≡ none) k (sym r-is ∙ ap ranOf e))
 
         module _ (last : ℕ) (t : Tally) (r-told : r ≡ ran.Ended last t) where
@@ -83,12 +87,12 @@ module _ (f spans : List ℕ) (v : Version) (first stop len : ℕ) (s : Started 
 
           pub changing-wrong : (b : Bool) → b ≡ changes v t → not b ≡ true → WalkDone f → Found f → ⊥
           changing-wrong b b-is n k x =
-              changing-fails f spans v first stop len (once-walked k) x place blocks actual (answer k) t (counts k) (for-file (λ w. changes w t ≡ false) k (sym b-is ∙ not-taken b n))
+              changing-fails f spans v first stop len (once-walked k) (new k) x place blocks actual (answer k) t (counts k) (for-file (λ w. changes w t ≡ false) k (sym b-is ∙ not-taken b n))
 
           module _ (e : Ends) (e-is : e ≡ endsAt v f spans last stop) where
             pub ends-wrong : e ≡ ended.Wrong → WalkDone f → Found f → ⊥
             ends-wrong q k x =
-                ends-fail f spans v first stop len (once-walked k) x place blocks actual (answer k) last (ran-as k) (for-file (λ w. endsAt w f spans last stop ≡ ended.Wrong) k (sym e-is ∙ q))
+                ends-fail f spans v first stop len (once-walked k) (new k) x place blocks actual (answer k) last (ran-as k) (for-file (λ w. endsAt w f spans last stop ≡ ended.Wrong) k (sym e-is ∙ q))
 
             -- where all tests pass, the walk is not refused
             module _ (fits listed changed : Bool) (fits-is : fits ≡ startFits v (part f (first + 1) len)) (fits-told : not fits ≡ false)
@@ -102,7 +106,7 @@ module _ (f spans : List ℕ) (v : Version) (first stop len : ℕ) (s : Started 
                   let k = not-refused in
                   let y = once-walked k in (
                     k,
-                    holds f spans v first stop len y (for-file (λ w. startFits w (part f (first + 1) len) ≡ true) k (sym fits-is ∙ not-left fits fits-told)) place blocks actual (answer k)
+                    holds f spans v first stop len y (new k) (for-file (λ w. startFits w (part f (first + 1) len) ≡ true) k (sym fits-is ∙ not-left fits fits-told)) place blocks actual (answer k)
                         (for-file (λ w. listedRight w (getD spans 0x3D 0) blocks actual ≡ true) k (sym listed-is ∙ not-left listed listed-told)) last (ran-as k) t (counts k)
                         (for-file (λ w. changes w t ≡ true) k (sym changed-is ∙ not-left changed changed-told)) count
                         (for-file (λ w. endsAt w f spans last stop ≡ ended.Good count) k (sym e-is ∙ e-told)) (y .version-is),

@@ -1,5 +1,6 @@
 pub mod Walked
 pub mod Opening
+pub mod Accepted
 pub mod StartLaws
 pub mod Stages
 pub mod Places

@@ -11,11 +11,12 @@ use Rattle.grammar.specs.Whole.{saysVersion, isStart, codesRest, isEnd, areEnds
 use Rattle.de.specs.Walk.{walkOf}
 use Rattle.de.specs.Cut.{eventsRead}
 use Rattle.de.proofs.Opens.{opens-steps}
+use Rattle.known.specs.Known.{taken}
 use Rattle.read_judge.specs.Found.{opensWrong, versionSaid, earlyRefusal}
 
 -- what is refused before there is a replay
 unfoldable pub opens-early : ℕ
-unfolding opens-steps walkOf eventsRead opensWrong versionSaid earlyRefusal acceptedOf above
+unfolding opens-steps walkOf eventsRead opensWrong versionSaid earlyRefusal acceptedOf above taken
 opens-early = 0
 
 -- the machine over the events

@@ -12,6 +12,7 @@ use lib.ListN.{length, getD, take, drop, length-append}
 use lib.Seq.{drop-drop, drop-at, take-at}
 use Rattle.wire.specs.Wire.{part, ranged}
 use Rattle.format.specs.File.{Ev, eventBytes, eventsBytes}
+use Rattle.format.specs.Version.{acceptedOf}
 use Rattle.format.specs.declared.version.Version.{Version}
 use Rattle.layout.specs.Columns.{hasFamily}
 use Rattle.layout.specs.Payloads.{endSize}
@@ -43,6 +44,7 @@ use Rattle.read_outline.specs.declared.answer.Ends.the-variants as ended
 use Rattle.read_outline.proofs.Same.{Coded, Found as CodesFound, codes-of, codes-wrong, codes-found, GoodEnds, Ended, ends-of, ends-found}
 use Rattle.read_judge.specs.Found.{versionOf, versionSaid, Found}
 use Rattle.read_judge.specs.Inner.{Covers, Ready, startFits, changes, Tallied, EndAt, Holds}
+use Rattle.read_judge.proofs.Accepted.{all-events, all-taken}
 
 -- ---- lists
 
@@ -122,7 +124,7 @@ module _ (f spans : List ℕ) (v : Version) (first stop len : ℕ) (ready : Read
 
   -- ---- what a replay that is held says of them
 
-  module _ (x : Found f) where
+  module _ (new : acceptedOf w ≡ true) (x : Found f) where
     abbrev r : Replay
     r = x .replay
 
@@ -131,7 +133,7 @@ module _ (f spans : List ℕ) (v : Version) (first stop len : ℕ) (ready : Read
 
     both-events : startEvent (ready .block) ∷ ready .others ≡ startEvent (r .block) ∷ (codesEvents (r .codes) ++ behind)
     unfolding eventsOf
-    both-events = sym (ready .events-are) ∙ x .events-are
+    both-events = sym (ready .events-are) ∙ all-events f new x
 
     same-block : ready .block ≡ r .block
     same-block = ap (λ (e : Ev). e .payload) (head-eq-of-cons-eq both-events)
@@ -259,7 +261,7 @@ module _ (f spans : List ℕ) (v : Version) (first stop len : ℕ) (ready : Read
       let c = codes-cover place blocks actual b in
       omega (arith, ends w ascending f spans stop (drop stop f) (b .behind) place (c .long) (c .bytes-are) (c .spanned) (c .bytes) last .0 ran .place-is)
 
-  module _ (fits : startFits w (part f (first + 1) len) ≡ true) (place blocks actual : ℕ) (answer : codesAt w f spans at stop ≡ codes.Ended place blocks actual)
+  module _ (new : acceptedOf w ≡ true) (fits : startFits w (part f (first + 1) len) ≡ true) (place blocks actual : ℕ) (answer : codesAt w f spans at stop ≡ codes.Ended place blocks actual)
       (right : listedRight w (getD spans 0x3D 0) blocks actual ≡ true) (last : ℕ) (ran : scan w ascending f spans stop (suc stop) place initial ≡ some last) (t : Tally)
       (counts : tallied w ascending f spans stop (suc stop) place initial noTally ≡ some t) (changed : changes w t ≡ true) (count : ℕ)
       (good : endsAt w f spans last stop ≡ ended.Good count) where
@@ -325,7 +327,7 @@ module _ (f spans : List ℕ) (v : Version) (first stop len : ℕ) (ready : Read
     held-found = record {
       replay = held;
       whole = ready .present;
-      events-are = held-events;
+      events-are = all-taken f new held held-events;
       readable = record {
         well = record {
           version = version-first;

@@ -93,8 +93,8 @@ headed f spans h o bytes e =
     }
 
 pub started : (f spans : List ℕ) (first stop : ℕ) (whole : Bool) → Headed f spans first stop whole → whole ≡ true → (v : Version) (len : ℕ) (e : First) → e ≡ firstAt f spans first stop → e ≡ Opens v len
-    → Started f spans v first stop len
-started f spans first stop whole h w v len e q o = record { headed = subst (λ (b : Bool). Headed f spans first stop b) w h; opens = sym q ∙ o }
+    → acceptedOf v ≡ true → Started f spans v first stop len
+started f spans first stop whole h w v len e q o a = record { headed = subst (λ (b : Bool). Headed f spans first stop b) w h; opens = sym q ∙ o; new-enough = a }
 
 -- ---- the table's sizes have two bytes
 
@@ -167,7 +167,7 @@ module _ (f spans : List ℕ) (first stop : ℕ) (whole : Bool) (h : Headed f sp
   opens-not e q o = let is = opens-early e q o in early (λ z. omega arith) (sym is) offset-none
 
   module _ (v : Version) (len : ℕ) (e : First) (q : e ≡ firstAt f spans first stop) (o : e ≡ Opens v len) where
-    said : opening.Opened (eventsRead f) v len
+    pub said : opening.Opened (eventsRead f) v len
     said = first-said (Opens v len) (sym o ∙ q)
 
     right : opensWrong (eventsRead f) ≡ false

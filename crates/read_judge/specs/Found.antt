@@ -1,4 +1,4 @@
--- The replay that a file holds (2026-01): the one whose events the reader finds in it.
+-- The replay that a file holds (2026-01): the one whose events the reader finds in it. Of a newer recorder's events those that are known are taken (2026-12).
 -- Assumes nothing.
 use Prim.Native.Nat.{ℕ}
 use mathlib.Core.Path.{_≡_}
@@ -20,6 +20,7 @@ use Rattle.frames.specs.Judge.{tooMany}
 use Rattle.grammar.specs.Productions.{Replay, eventsOf, usedIn, codesBytes}
 use Rattle.grammar.specs.Readable.{Readable}
 use Rattle.columns.specs.Columns.{framesRead}
+use Rattle.known.specs.Known.{taken}
 use Rattle.read_outline.specs.Listed.{listedRight}
 
 -- ---- what is asked before there is a replay
@@ -53,11 +54,11 @@ refusalOffset f = walkNumbers (walkOf f) .offset
 abbrev pub geckoSpan : List ℕ → ℕ
 geckoSpan f = spanOf (codeOf GeckoCodes) (tableOf f)
 
--- the event data is whole; its events are those of a replay that can be read back; 3D is listed as the code blocks say
+-- the event data is whole; its events, as they are taken, are those of a replay that can be read back; 3D is listed as the code blocks say
 pub record Found (f : List ℕ) : Type 0 where
   pub replay : Replay
   pub whole : allPresent f ≡ true
-  pub events-are : eventsRead f ≡ eventsOf (versionOf f) replay
+  pub events-are : taken (versionOf f) (eventsRead f) ≡ eventsOf (versionOf f) replay
   pub readable : Readable (versionOf f) replay
   pub listed : listedRight (versionOf f) (geckoSpan f) (length (replay .codes)) (usedIn (replay .codes)) ≡ true
 

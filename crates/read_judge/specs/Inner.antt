@@ -9,7 +9,7 @@ use lib.ListN.{length, getD, drop}
 use Rattle.wire.specs.Wire.{part, ranged}
 use Rattle.format.specs.Event.{codeOf}
 use Rattle.format.specs.File.{Ev, eventsBytes}
-use Rattle.format.specs.Version.{version}
+use Rattle.format.specs.Version.{version, acceptedOf}
 use Rattle.format.specs.declared.event.Event.the-variants.{GameStart, GeckoCodes}
 use Rattle.format.specs.declared.version.Version.{Version}
 use Rattle.layout.specs.Columns.{hasFamily}
@@ -66,7 +66,7 @@ pub record Covers (f spans : List ℕ) (place stop : ℕ) (es : List Ev) : Type 
   pub spanned : Each (λ e. getD spans (e .code) 0 ≡ suc (length (e .payload))) es
   pub bytes : Each (λ e. Each (λ b. b < 256) (e .payload)) es
 
--- a whole file whose first event is a GameStart of an accepted version
+-- a whole file whose first event is a GameStart
 pub record Ready (f spans : List ℕ) (v : Version) (first stop len : ℕ) : Type 0 where
   pub block : List ℕ
   pub others : List Ev
@@ -181,10 +181,11 @@ pub record Headed (f spans : List ℕ) (first stop : ℕ) (whole : Bool) : Type 
   pub starts : first ≤ stop
   pub within : stop ≤ length f
 
--- it is whole, and its first event is a GameStart
+-- it is whole, and its first event is a GameStart of an accepted version
 pub record Started (f spans : List ℕ) (v : Version) (first stop len : ℕ) : Type 0 where
   pub headed : Headed f spans first stop true
   pub opens : firstAt f spans first stop ≡ Opens v len
+  pub new-enough : acceptedOf v ≡ true
 
 -- its parts hold, and then its walk is not refused; or it holds no replay, unless its walk is refused
 abbrev pub JudgesFirst : List ℕ → ℕ → ℕ → Judged → Type 0

@@ -33,7 +33,7 @@ pub enum Verdict {
 }
 
 // A refusal that names no place.
-fn refused(number: u8) -> Verdict
+pub fn refused(number: u8) -> Verdict
     ensures { λ r. ⌜ r ≡ refusedAs number ⌝ }
 {
     Verdict::Refused { number, offset: 0 }
@@ -53,7 +53,7 @@ pub fn counts_by(t: Tally) -> Counts
 }
 
 // A frame input that has these counts, and nobody in it.
-fn input_of(p: Parts) -> Frames
+pub fn input_of(p: Parts) -> Frames
     ensures { λ r. ⌜ r .counts ≡ countsBy (p .tally) ⌝ }
 {
     let version = p.version;

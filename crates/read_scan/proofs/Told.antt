@@ -323,6 +323,11 @@ all-told v fs = record {
   changing = changing-so fs;
 }
 
+-- the events of frames, and what follows them, count what the frames have
+pub told-by : (v : Version) (o : Order) (fs : List Frame) → Each (GoodFrame v o) fs → (others : List Ev) → NoFrame others → Told v fs (tallyOf 8 0 noTally (eventsOfFrames v fs ++ others))
+told-by v o fs good others after-is =
+    subst (Told v fs) (sym (frames-tell v o others after-is fs good 8 0 noTally (late (hasFamily v FrameStart) 8 (omega arith)))) (all-told v fs)
+
 module _ (v : Version) (o : Order) (file spans : List ℕ) (stop : ℕ) (tail : List ℕ) (es : List Ev) (first : ℕ) (long : stop ≡ first + length (eventsBytes es))
     (here : drop first file ≡ eventsBytes es ++ tail) (spanned : Each (Spanned spans) es) (fs : List Frame) (good : Each (GoodFrame v o) fs) (others : List Ev) (after-is : NoFrame others)
     (events-are : es ≡ eventsOfFrames v fs ++ others) where

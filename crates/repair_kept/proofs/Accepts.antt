@@ -139,11 +139,11 @@ module _ (g spans : List ℕ) (v : Version) (first q len : ℕ) (s : Started g s
     abbrev all-parts : Parts
     all-parts = record { version = v; «block_len» = len; «codes_at» = first + 1 + len; blocks = t .blocks; actual = t .actual; «frames_at» = t .place; tally = t .told; «ends_at» = t .last; ends = t .count }
 
-    pub accepted-so : acceptedOf v ≡ true → startFits v (part g (first + 1) len) ≡ true → Accepted g
-    accepted-so a fits =
+    pub accepted-so : startFits v (part g (first + 1) len) ≡ true → Accepted g
+    accepted-so fits =
         let (k, h) = all-held g spans v first q len s all-codes (sym (t .coded)) (t .place) (t .blocks) (t .actual) refl all-frames (sym (t .ran)) (sym (t .counts)) (t .last) (t .told) refl (ended.Good (t .count)) (sym (t .good))
         true true true (sym fits) refl (sym (t .listed)) refl (sym (t .changed)) refl (t .count) refl in
-        let n = counted g spans first q true (s .headed) k v len (Opens v len) (sym (s .opens)) refl a all-parts h in
+        let n = counted g spans first q true (s .headed) k v len (Opens v len) (sym (s .opens)) refl (s .new-enough) all-parts h in
         let x = accepts g first q all-parts n (counts-only v (t .told)) refl false (sym (few-so v (t .told) (t .blocks) (t .small) (t .some-blocks))) refl in
         record { early = x .early; found = x .holds .found; small = x .small }
 
@@ -218,9 +218,6 @@ module _ (g spans : List ℕ) (first q : ℕ) (h : Headed g spans first q true) 
   done = early-walk g (walkOf g) refl (x .early)
 
   module _ (v : Version) (len : ℕ) (opens : firstAt g spans first q ≡ Opens v len) where
-    started : Started g spans v first q len
-    started = record { headed = h; opens = opens }
-
     abbrev behind : ℕ
     behind = first + 1 + len
 
@@ -230,6 +227,9 @@ module _ (g spans : List ℕ) (first q : ℕ) (h : Headed g spans first q true) 
         go : (b : Bool) → acceptedOf v ≡ b → acceptedOf v ≡ true
         go true e = e
         go false e = absurd (omega (arith, new-early g spans first q true h done v len (Opens v len) (sym opens) refl e, x .early))
+
+    started : Started g spans v first q len
+    started = record { headed = h; opens = opens; new-enough = not-new }
 
     fits-start : startFits v (part g (first + 1) len) ≡ true
     fits-start = go (startFits v (part g (first + 1) len)) refl

@@ -86,12 +86,13 @@ module _ (f spans : List ℕ) (accepted : headRefusal (zeroed f) ≡ 0) (many : 
         let start : Started (endingAt f p) spans v first p len = record {
           headed = ending-headed f accepted p (x .low) (x .within) spans many index bytes (omega (arith, x .above));
           opens = first-move f (endingAt f p) spans tail first (length f) p (omega arith) v len opens (x .above);
+          new-enough = new;
         } in
         record {
           begins = record {
             within = x .within;
             short = x .low;
-            accepted = accepted-so (endingAt f p) spans v first p len start (x .tests) new (ap (startFits v) (sym (part-same f (endingAt f p) tail (first + 1) len (omega arith))) ∙ fits);
+            accepted = accepted-so (endingAt f p) spans v first p len start (x .tests) (ap (startFits v) (sym (part-same f (endingAt f p) tail (first + 1) len (omega arith))) ∙ fits);
           };
           most = most-kept;
         }

@@ -14,7 +14,7 @@ use Rattle.frames.specs.Judge.{refusals}
 use Rattle.players.specs.Presence.{marked}
 use Rattle.transpose.specs.Records.{markAt}
 use Rattle.transpose.specs.Answers.{unlessRefused}
-use Rattle.rows_run.specs.Run.{familyOf, noRun, runRow, runCells, rowsRunRefusal}
+use Rattle.rows_run.specs.Run.{familyAt, noRun, runRow, runCells, rowsRunRefusal}
 use Rattle.frames.proofs.Opens.{opens-refusals}
 
 -- from, from + step, .., n of them
@@ -94,7 +94,7 @@ shown c =
     let f = c .frames in
     let s = c .stores in
     let n = rowsRunRefusal f s (c .number) (c .slot) (c .from) (c .to) (length (c .out)) in
-    n ∷ unlessRefused n (splice (c .out) 0 (runCells f s (familyOf (c .number)) (c .slot) (c .from) (c .to))) (c .out)
+    n ∷ unlessRefused n (splice (c .out) 0 (runCells f s (familyAt (c .number)) (c .slot) (c .from) (c .to))) (c .out)
 
 computed : map shown cases ≡ map (λ (c : Case). c .answer) cases
 unfolding opens-refusals cases shown steps splice ranged runRow noRun rowsRunRefusal unlessRefused markAt marked

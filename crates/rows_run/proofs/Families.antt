@@ -3,9 +3,9 @@
 use mathlib.Core.Path.{_≡_, refl}
 use Prim.Native.Nat.{ℕ, zero, suc}
 use Rattle.layout.specs.declared.columns.Family.the-variants.{StadiumTransformation}
-use Rattle.rows_run.specs.Run.{familyOf}
+use Rattle.rows_run.specs.Run.{familyAt}
 
-pub last-family : (n : ℕ) → (n ≡ 0 → ⊥) × (n ≡ 1 → ⊥) × (n ≡ 2 → ⊥) × (n ≡ 3 → ⊥) × (n ≡ 4 → ⊥) × (n ≡ 5 → ⊥) × (n ≡ 6 → ⊥) → StadiumTransformation ≡ familyOf n
+pub last-family : (n : ℕ) → (n ≡ 0 → ⊥) × (n ≡ 1 → ⊥) × (n ≡ 2 → ⊥) × (n ≡ 3 → ⊥) × (n ≡ 4 → ⊥) × (n ≡ 5 → ⊥) × (n ≡ 6 → ⊥) → StadiumTransformation ≡ familyAt n
 last-family zero h = absurd (h .0 refl)
 last-family (suc zero) h = absurd (h .1 refl)
 last-family (suc (suc zero)) h = absurd (h .2 refl)

@@ -22,7 +22,7 @@ use Rattle.frames.specs.Inner.{Accepted}
 use Rattle.frames.specs.Judge.{refusals}
 use Rattle.frames.proofs.Accepted.{numbered, accepted}
 use Rattle.transpose.specs.Answers.{unlessRefused}
-use Rattle.rows_run.specs.Run.{familyOf, ofPlayers, rowLength, noRun, runLength, rowsRunRefusal}
+use Rattle.rows_run.specs.Run.{familyAt, ofPlayers, rowLength, noRun, runLength, rowsRunRefusal}
 use Rattle.rows_run.specs.Inner.{Running, runRefused}
 
 -- ---- as the code asks it
@@ -34,13 +34,13 @@ four-tests false false true d = refl
 four-tests false false false true = refl
 four-tests false false false false = refl
 
-pub no-run-as : (f : Frames) (number slot a b : ℕ) {family : Family} {blocks rows : ℕ} → family ≡ familyOf number → blocks ≡ slotBlocks f family → rows ≡ rowsOf f family
+pub no-run-as : (f : Frames) (number slot a b : ℕ) {family : Family} {blocks rows : ℕ} → family ≡ familyAt number → blocks ≡ slotBlocks f family → rows ≡ rowsOf f family
     → (((ltb 7 number || leb blocks slot) || ltb b a) || ltb rows b) ≡ noRun f number slot a b
 unfolding noRun
 no-run-as f number slot a b {family} {blocks} {rows} ef eb er =
-    let eb′ : blocks ≡ slotBlocks f (familyOf number) = eb ∙ ap (slotBlocks f) ef in
-    let er′ : rows ≡ rowsOf f (familyOf number) = er ∙ ap (rowsOf f) ef in
-    rw (eb′, er′) (four-tests (ltb 7 number) (leb (slotBlocks f (familyOf number)) slot) (ltb b a) (ltb (rowsOf f (familyOf number)) b))
+    let eb′ : blocks ≡ slotBlocks f (familyAt number) = eb ∙ ap (slotBlocks f) ef in
+    let er′ : rows ≡ rowsOf f (familyAt number) = er ∙ ap (rowsOf f) ef in
+    rw (eb′, er′) (four-tests (ltb 7 number) (leb (slotBlocks f (familyAt number)) slot) (ltb b a) (ltb (rowsOf f (familyAt number)) b))
 
 module _ (v : Version) (family : Family) {n : ℕ} {t : Bool} (e : n ≡ length (widthsOf family v)) (q : t ≡ ofPlayers family) where
   pub players-length : t ≡ true → n + 1 ≡ rowLength v family
@@ -52,19 +52,19 @@ module _ (v : Version) (family : Family) {n : ℕ} {t : Bool} (e : n ≡ length 
 pub run-fits : (a b rows k : ℕ) → b ≤ rows → rows ≤ 4194304 → k ≤ 33 → (b - a) * k ≤ 4194304 * 33
 run-fits a b rows k h l m = let few : b - a ≤ 4194304 = omega (arith, h, l) in mul-le-mul few m
 
-module _ (f : Frames) (number a b room : ℕ) {family : Family} {k : ℕ} (ef : family ≡ familyOf number) (ek : k ≡ rowLength (f .version) family) where
-  length-as : (b - a) * k ≡ runLength f (familyOf number) a b
+module _ (f : Frames) (number a b room : ℕ) {family : Family} {k : ℕ} (ef : family ≡ familyAt number) (ek : k ≡ rowLength (f .version) family) where
+  length-as : (b - a) * k ≡ runLength f (familyAt number) a b
   length-as = ap (λ (x : ℕ). (b - a) * x) (ek ∙ ap (rowLength (f .version)) ef)
 
-  pub run-short : room < (b - a) * k → ltb room (runLength f (familyOf number) a b) ≡ true
-  run-short h = lt-ltb room (runLength f (familyOf number) a b) (rw (← length-as) h)
+  pub run-short : room < (b - a) * k → ltb room (runLength f (familyAt number) a b) ≡ true
+  run-short h = lt-ltb room (runLength f (familyAt number) a b) (rw (← length-as) h)
 
-  pub run-long : (b - a) * k ≤ room → ltb room (runLength f (familyOf number) a b) ≡ false
-  run-long h = le-ltb room (runLength f (familyOf number) a b) (rw (← length-as) h)
+  pub run-long : (b - a) * k ≤ room → ltb room (runLength f (familyAt number) a b) ≡ false
+  run-long h = le-ltb room (runLength f (familyAt number) a b) (rw (← length-as) h)
 
 -- ---- what it says
 module _ (f : Frames) (number slot a b : ℕ) (e : noRun f number slot a b ≡ false) where
-  tests : (ltb 7 number ≡ false) × (leb (slotBlocks f (familyOf number)) slot ≡ false) × (ltb b a ≡ false) × (ltb (rowsOf f (familyOf number)) b ≡ false)
+  tests : (ltb 7 number ≡ false) × (leb (slotBlocks f (familyAt number)) slot ≡ false) × (ltb b a ≡ false) × (ltb (rowsOf f (familyAt number)) b ≡ false)
   unfolding noRun
   tests =
       let one = one-passed _ _ e in
@@ -75,18 +75,18 @@ module _ (f : Frames) (number slot a b : ℕ) (e : noRun f number slot a b ≡ f
   pub known : number ≤ 7
   known = ltb-false 7 number (tests .0)
 
-  pub slot-in : slot < slotBlocks f (familyOf number)
-  slot-in = leb-false (slotBlocks f (familyOf number)) slot (tests .1)
+  pub slot-in : slot < slotBlocks f (familyAt number)
+  slot-in = leb-false (slotBlocks f (familyAt number)) slot (tests .1)
 
   pub range : a ≤ b
   range = ltb-false b a (tests .2)
 
-  pub inside : b ≤ rowsOf f (familyOf number)
-  inside = ltb-false (rowsOf f (familyOf number)) b (tests .3)
+  pub inside : b ≤ rowsOf f (familyAt number)
+  inside = ltb-false (rowsOf f (familyAt number)) b (tests .3)
 
 module _ (f : Frames) (s : Lent) (number slot a b room : ℕ) where
   abbrev last : List Refusal
-  last = refuse 13 (noRun f number slot a b) ∷ refuse 12 (ltb room (runLength f (familyOf number) a b)) ∷ []
+  last = refuse 13 (noRun f number slot a b) ∷ refuse 12 (ltb room (runLength f (familyAt number) a b)) ∷ []
 
   first-refuses : (n : ℕ) → n ≡ lowest (refusals f s 0 0) → (n ≡ 0 → ⊥) → n ≡ rowsRunRefusal f s number slot a b room
   unfolding rowsRunRefusal
@@ -110,7 +110,7 @@ module _ (f : Frames) (s : Lent) (number slot a b room : ℕ) where
     pub run-accepted : Accepted f s
     run-accepted = accepted f s 0 0 run-first
 
-    rest : (noRun f number slot a b ≡ false) × (ltb room (runLength f (familyOf number) a b) ≡ false)
+    rest : (noRun f number slot a b ≡ false) × (ltb room (runLength f (familyAt number) a b) ≡ false)
     rest =
         let one = passed _ _ _ (sym (last-decides run-first) ∙ e) in
         (one .0, passed _ _ _ (one .1) .0)
@@ -118,12 +118,12 @@ module _ (f : Frames) (s : Lent) (number slot a b room : ℕ) where
     pub run-there : noRun f number slot a b ≡ false
     run-there = rest .0
 
-    pub run-room : runLength f (familyOf number) a b ≤ room
-    run-room = ltb-false room (runLength f (familyOf number) a b) (rest .1)
+    pub run-room : runLength f (familyAt number) a b ≤ room
+    run-room = ltb-false room (runLength f (familyAt number) a b) (rest .1)
 
-    pub running : Running f (familyOf number) (cellsOf (s .cells) (familyOf number)) slot a b
+    pub running : Running f (familyAt number) (cellsOf (s .cells) (familyAt number)) slot a b
     running = record {
-      store = run-accepted .stores (familyOf number);
+      store = run-accepted .stores (familyAt number);
       modest = run-accepted .modest;
       even = run-accepted .presence .even;
       slot-in = slot-in f number slot a b run-there;

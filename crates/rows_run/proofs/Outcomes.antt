@@ -14,7 +14,7 @@ use Rattle.game.specs.Stores.{Cells, Lent, cells, cellsOf}
 use Rattle.game.specs.declared.frames.Frames.{Frames}
 use Rattle.transpose.specs.Answers.{unlessRefused}
 use Rattle.transpose.proofs.Shown.{given-none, given-row}
-use Rattle.rows_run.specs.Run.{familyOf, ofPlayers, runLength, runRow, runCells, rowsRunRefusal, RowsOutcome}
+use Rattle.rows_run.specs.Run.{familyAt, ofPlayers, runLength, runRow, runCells, rowsRunRefusal, RowsOutcome}
 use Rattle.rows_run.specs.Inner.{Running}
 use Rattle.rows_run.proofs.Runs.{plain-any, length-rows}
 use Rattle.rows_run.proofs.Judged.{run-room, running}
@@ -58,23 +58,23 @@ module _ (f : Frames) (s : Lent) (number slot a b : ℕ) (out : List ℕ) where
   pub refused-run : {n : ℕ} → n ≡ rowsRunRefusal f s number slot a b (length out) → (n ≡ 0 → ⊥) → RowsOutcome f s number slot a b out (record { refused = n; len = 0 }) out
   refused-run {n} e ne =
       let no : rowsRunRefusal f s number slot a b (length out) ≡ 0 → ⊥ = λ z. ne (e ∙ z) in
-      let none : _≡_ {A = ℕ} 0 (unlessRefused (rowsRunRefusal f s number slot a b (length out)) (runLength f (familyOf number) a b) 0) = given-none (rowsRunRefusal f s number slot a b (length out)) (runLength f (familyOf number) a b) 0 no in
+      let none : _≡_ {A = ℕ} 0 (unlessRefused (rowsRunRefusal f s number slot a b (length out)) (runLength f (familyAt number) a b) 0) = given-none (rowsRunRefusal f s number slot a b (length out)) (runLength f (familyAt number) a b) 0 no in
       record {
         answer-is = λ i. record { refused = e i; len = none i };
         out-is = given-none _ _ _ no;
       }
 
-  module _ (z : rowsRunRefusal f s number slot a b (length out) ≡ 0) (family : Family) (e : family ≡ familyOf number) where
-    stored : cellsOf (noIds (s .cells)) family ≡ cellsOf (s .cells) (familyOf number)
+  module _ (z : rowsRunRefusal f s number slot a b (length out) ≡ 0) (family : Family) (e : family ≡ familyAt number) where
+    stored : cellsOf (noIds (s .cells)) family ≡ cellsOf (s .cells) (familyAt number)
     stored = ids-apart (s .cells) family ∙ ap (cellsOf (s .cells)) e
 
-    same-rows : ranged (runRow f family (cellsOf (noIds (s .cells)) family) (s .presence) slot) a (b - a) ≡ runCells f s (familyOf number) slot a b
+    same-rows : ranged (runRow f family (cellsOf (noIds (s .cells)) family) (s .presence) slot) a (b - a) ≡ runCells f s (familyAt number) slot a b
     same-rows =
         ap (λ (xs : List ℕ). ranged (runRow f family xs (s .presence) slot) a (b - a)) stored
-        ∙ ap (λ (k : Family). ranged (runRow f k (cellsOf (s .cells) (familyOf number)) (s .presence) slot) a (b - a)) e
+        ∙ ap (λ (k : Family). ranged (runRow f k (cellsOf (s .cells) (familyAt number)) (s .presence) slot) a (b - a)) e
 
-    rows-length : length (runCells f s (familyOf number) slot a b) ≡ runLength f (familyOf number) a b
-    rows-length = length-rows f (familyOf number) (cellsOf (s .cells) (familyOf number)) (s .presence) slot a (b - a)
+    rows-length : length (runCells f s (familyAt number) slot a b) ≡ runLength f (familyAt number) a b
+    rows-length = length-rows f (familyAt number) (cellsOf (s .cells) (familyAt number)) (s .presence) slot a (b - a)
 
     pub run-running : Running f family (cellsOf (noIds (s .cells)) family) slot a b
     run-running = rw (stored, e) (running f s number slot a b (length out) z)
@@ -86,8 +86,8 @@ module _ (f : Frames) (s : Lent) (number slot a b : ℕ) (out : List ℕ) where
         → RowsOutcome f s number slot a b out (record { refused = 0; len = r }) after
     written-run {after} {r} w =
         let put = wrote-as same-rows w in
-        let len : r ≡ runLength f (familyOf number) a b = omega (arith, put .next-is, rows-length) in
-        let shown : r ≡ unlessRefused (rowsRunRefusal f s number slot a b (length out)) (runLength f (familyOf number) a b) 0 = len ∙ given-row (rowsRunRefusal f s number slot a b (length out)) (runLength f (familyOf number) a b) 0 z in
+        let len : r ≡ runLength f (familyAt number) a b = omega (arith, put .next-is, rows-length) in
+        let shown : r ≡ unlessRefused (rowsRunRefusal f s number slot a b (length out)) (runLength f (familyAt number) a b) 0 = len ∙ given-row (rowsRunRefusal f s number slot a b (length out)) (runLength f (familyAt number) a b) 0 z in
         record {
           answer-is = λ i. record { refused = sym z i; len = shown i };
           out-is = put .after-is ∙ given-row _ _ _ z;

@@ -37,7 +37,7 @@ use Rattle.transpose.specs.declared.frame.Frame.{Frame}
 use Rattle.transpose.proofs.Judged.{reachable, showable}
 use Rattle.transpose.proofs.Shown.{given-row}
 use Rattle.rows_given.specs.Given.{givenCells, preGiven, postGiven, itemGiven, frameStartGiven, frameEndGiven, fodPlatformGiven, dreamlandWhispyGiven, stadiumTransformationGiven}
-use Rattle.rows_run.specs.Run.{familyOf, ofPlayers, rowLength, runRow, runCells, rowsRunRefusal, RowsOutcome}
+use Rattle.rows_run.specs.Run.{familyAt, ofPlayers, rowLength, runRow, runCells, rowsRunRefusal, RowsOutcome}
 use Rattle.rows_run.specs.declared.run.Run.{Run}
 use Rattle.rows_run.proofs.Runs.{length-row, length-rows}
 use Rattle.rows_run.proofs.Judged.{slot-in, inside, run-first, run-there, run-room}
@@ -148,7 +148,7 @@ end-as-start f s index = refl
 -- ---- what a run leaves in the store
 module _ (f : Frames) (s : Lent) (number slot a b : ℕ) (out out′ : List ℕ) (r : Run) (o : RowsOutcome f s number slot a b out r out′) (given : r .refused ≡ 0) where
   abbrev k : Family
-  k = familyOf number
+  k = familyAt number
 
   abbrev wide : ℕ
   wide = rowLength (f .version) k

@@ -15,7 +15,7 @@ use Rattle.frames.specs.Inner.{Stored}
 use Rattle.players.specs.Inner.{Modest}
 use Rattle.players.specs.Presence.{marked, portsUneven}
 use Rattle.transpose.specs.Answers.{unlessRefused}
-use Rattle.rows_run.specs.Run.{noRun, familyOf, runLength}
+use Rattle.rows_run.specs.Run.{noRun, familyAt, runLength}
 
 -- n cells, the first at index first, each next one a step further
 unfoldable pub strided : List ℕ → ℕ → ℕ → ℕ → List ℕ
@@ -45,4 +45,4 @@ pub record Running (f : Frames) (family : Family) (cells : List ℕ) (slot a b :
 -- the number of a refusal, or of the run's
 unfoldable pub runRefused : ℕ → Frames → ℕ → ℕ → ℕ → ℕ → ℕ → ℕ
 runRefused n f number slot a b room =
-    unlessRefused n (lowest (refuse 13 (noRun f number slot a b) ∷ refuse 12 (ltb room (runLength f (familyOf number) a b)) ∷ [])) n
+    unlessRefused n (lowest (refuse 13 (noRun f number slot a b) ∷ refuse 12 (ltb room (runLength f (familyAt number) a b)) ∷ [])) n

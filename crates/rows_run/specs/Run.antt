@@ -21,8 +21,8 @@ use Rattle.transpose.specs.Answers.{unlessRefused}
 use Rattle.rows_run.specs.declared.run.Run.{Run}
 
 -- the families are numbered by their stores
-abbrev pub familyOf : ℕ → Family
-familyOf n = getD families n StadiumTransformation
+abbrev pub familyAt : ℕ → Family
+familyAt n = getD families n StadiumTransformation
 
 -- the families whose rows are a player's
 abbrev pub ofPlayers : Family → Bool
@@ -55,12 +55,12 @@ runLength f family a b = (b - a) * rowLength (f .version) family
 
 -- 13: no such family, no such slot (families without players have slot 0), or a range that is reversed or goes past the rows
 unfoldable pub noRun : Frames → ℕ → ℕ → ℕ → ℕ → Bool
-noRun f number slot a b = oneOf (ltb 7 number ∷ leb (slotBlocks f (familyOf number)) slot ∷ ltb b a ∷ ltb (rowsOf f (familyOf number)) b ∷ [])
+noRun f number slot a b = oneOf (ltb 7 number ∷ leb (slotBlocks f (familyAt number)) slot ∷ ltb b a ∷ ltb (rowsOf f (familyAt number)) b ∷ [])
 
 -- 1 to 7 as a game is refused, then 13, then 12: a store that is too short
 abbrev pub runRefusals : Frames → Lent → ℕ → ℕ → ℕ → ℕ → ℕ → List Refusal
 runRefusals f s number slot a b room =
-    refusals f s 0 0 ++ (refuse 13 (noRun f number slot a b) ∷ refuse 12 (ltb room (runLength f (familyOf number) a b)) ∷ [])
+    refusals f s 0 0 ++ (refuse 13 (noRun f number slot a b) ∷ refuse 12 (ltb room (runLength f (familyAt number) a b)) ∷ [])
 
 unfoldable pub rowsRunRefusal : Frames → Lent → ℕ → ℕ → ℕ → ℕ → ℕ → ℕ
 rowsRunRefusal f s number slot a b room = lowest (runRefusals f s number slot a b room)
@@ -71,5 +71,5 @@ runAnswer refused cells = record { refused = refused; len = unlessRefused refuse
 
 -- what is answered and what the store has afterwards: the rows' cells at its start and nothing else changed, or all as it was
 pub record RowsOutcome (f : Frames) (s : Lent) (number slot a b : ℕ) (out : List ℕ) (r : Run) (out′ : List ℕ) : Type 0 where
-  pub answer-is : r ≡ runAnswer (rowsRunRefusal f s number slot a b (length out)) (runLength f (familyOf number) a b)
-  pub out-is : out′ ≡ unlessRefused (rowsRunRefusal f s number slot a b (length out)) (splice out 0 (runCells f s (familyOf number) slot a b)) out
+  pub answer-is : r ≡ runAnswer (rowsRunRefusal f s number slot a b (length out)) (runLength f (familyAt number) a b)
+  pub out-is : out′ ≡ unlessRefused (rowsRunRefusal f s number slot a b (length out)) (splice out 0 (runCells f s (familyAt number) slot a b)) out

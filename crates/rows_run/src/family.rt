@@ -1,11 +1,11 @@
 // The families by their numbers.
 ghost use mathlib.Core.Path.{_≡_};
-ghost use Rattle.rows_run.specs.Run.{familyOf, ofPlayers};
+ghost use Rattle.rows_run.specs.Run.{familyAt, ofPlayers};
 use layout::columns::Family;
 
 // The families by the number of their store.
 pub fn family_of(n: u8) -> Family
-    ensures { λ r. ⌜ r ≡ familyOf n ⌝ }
+    ensures { λ r. ⌜ r ≡ familyAt n ⌝ }
 {
     match n {
         0 => Family::FrameStart,

@@ -5,7 +5,7 @@ ghost use Prim.Native.Nat.{_-_, _≤_, _<_, _*_};
 ghost use Rattle.wire.specs.Wire.{Room, Wrote, ranged};
 ghost use Rattle.game.specs.Frames.{rowsOf};
 ghost use Rattle.game.specs.Stores.{cells, cellsOf, offsets, lent};
-ghost use Rattle.rows_run.specs.Run.{familyOf, noRun, rowLength, runRow, RowsOutcome};
+ghost use Rattle.rows_run.specs.Run.{familyAt, noRun, rowLength, runRow, RowsOutcome};
 ghost use Rattle.rows_run.specs.Inner.{Running, runRefused};
 use super::family::family_of;
 use super::family::of_players;
@@ -47,7 +47,7 @@ fn is_no_run(f: Frames, number: u8, slot: usize, a: usize, b: usize) -> bool
 
 // What the judge of the stores answered, or 13, or 12.
 fn run_refused(n: u8, f: Frames, number: u8, slot: usize, a: usize, b: usize, room: usize) -> u8
-    requires { ⌜ (n ≡ 0 → rowsOf f (familyOf number) ≤ 4194304) ⌝ }
+    requires { ⌜ (n ≡ 0 → rowsOf f (familyAt number) ≤ 4194304) ⌝ }
     ensures { λ r. ⌜ r ≡ runRefused n f number slot a b room ⌝ }
 {
     if n != 0 {

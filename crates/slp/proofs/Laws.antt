@@ -18,7 +18,7 @@ use Rattle.game.specs.declared.frames.Frames.{Frames}
 use Rattle.append.specs.Run as append
 use Rattle.append.specs.declared.appended.Appended.{Appended}
 use Rattle.answers.specs.declared.SlpAppended.{SlpAppended}
-use Rattle.rows_run.specs.Run.{familyOf}
+use Rattle.rows_run.specs.Run.{familyAt}
 use Rattle.ser.specs.Write as write
 use Rattle.game.specs.declared.Game.{Game}
 use Rattle.ser.specs.declared.written.Written.{Written}
@@ -53,11 +53,11 @@ append-outcome o n = record { answer-is = n ∙ ap appendedStruct (o .answer-is)
 pub no-columns : (v : Version) (n : ℕ) → 7 < n → 0 ≡ storeColumns v n
 no-columns v n h = rw (lt-ltb 7 n h)
 
-pub some-columns : (v : Version) (n k : ℕ) (family : Family) → n ≤ 7 → family ≡ familyOf n → k ≡ length (widthsOf family v) → k ≡ storeColumns v n
+pub some-columns : (v : Version) (n k : ℕ) (family : Family) → n ≤ 7 → family ≡ familyAt n → k ≡ length (widthsOf family v) → k ≡ storeColumns v n
 some-columns v n k family h f e = rw (le-ltb 7 n h, ← f) e
 
 pub no-column : (n k : ℕ) {r : Described} → 7 < n → r ≡ noColumn → r ≡ storeColumn n k
 no-column n k h e = rw (lt-ltb 7 n h) e
 
-pub some-column : (n k : ℕ) {family : Family} {r : Described} → n ≤ 7 → family ≡ familyOf n → r ≡ described family k → r ≡ storeColumn n k
+pub some-column : (n k : ℕ) {family : Family} {r : Described} → n ≤ 7 → family ≡ familyAt n → r ≡ described family k → r ≡ storeColumn n k
 some-column n k h f e = rw (le-ltb 7 n h, ← f) e

@@ -9,7 +9,8 @@ fn show(replay: &slp::Replay) {
 	let (v, counts) = (frames.version, frames.counts);
 	print!("version {}.{}.{}, frames {}, items {}, ports", v.major, v.minor, v.patch, counts.frames, counts.items);
 	frames.ports[..frames.port_count].iter().for_each(|column| print!(" {}", column.port));
-	println!();
+	// then a newer recorder wrote it, and save refuses it
+	println!("{}", if replay.partly { ", partly read" } else { "" });
 }
 
 /// Under another name until all of it is on the disk, so that half a replay never has its name; and no other file loses that name.

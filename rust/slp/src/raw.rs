@@ -112,6 +112,7 @@ pub struct MapRead {
 #[repr(C)]
 pub struct Measured {
 	pub refused: u8,
+	pub partly: u8,
 	pub offset: usize,
 	pub frames: Frames,
 	pub codes_given: u8,
@@ -123,6 +124,7 @@ pub struct Measured {
 #[repr(C)]
 pub struct Opened {
 	pub refused: u8,
+	pub partly: u8,
 	pub offset: usize,
 	pub game: Game,
 	pub places: Places,

@@ -15,6 +15,8 @@ use crate::{
 /// What [`read_into`] will need for a replay, and give.
 #[derive(Clone, Copy, Debug, PartialEq, Eq)]
 pub struct Measured {
+	/// whether a newer recorder wrote it, above 3.18.0 with major number 3, so that only what 3.18 knows is read
+	pub partly: bool,
 	/// what is said of the frames
 	pub frames: Frames,
 	/// whether the version is 3.3 or newer and the payload table lists GeckoCodes
@@ -28,12 +30,16 @@ pub struct Measured {
 }
 
 /// What a replay's columns need, or the refusal: 14 to 17 over the whole walk, with their offset; 19 if the first event is no GameStart of at least 4
-/// bytes; 1; 19 for what cannot be read into columns; 2.
+/// bytes; 1 from version 4.0.0 on; 19 for what cannot be read into columns; 2.
+///
+/// Of a newer recorder's replay, above 3.18.0 with major number 3, what 3.18 knows is read: payloads may be longer, and events of codes that 3.18 does not
+/// know are passed over. [`Measured::partly`] says so.
 pub fn measure(file: &[u8]) -> Result<Measured, Refused> {
 	// SAFETY: the pointer comes with the length of its slice, and the call keeps nothing.
 	let m = unsafe { raw::slp_measure(file.as_ptr(), file.len()) };
 	match m.refused {
 		0 => Ok(Measured {
+			partly: m.partly != 0,
 			frames: m.frames,
 			codes_given: m.codes_given != 0,
 			actual_size: m.actual_size,
@@ -80,7 +86,7 @@ pub struct Space<'a> {
 }
 
 /// The game of a replay and where its start block and metadata stand, with its columns at the start of each store; what lies past them stays. Refused as
-/// [`measure`], and last with 12 for a store that is too short; then no store is changed.
+/// [`measure`], which also says whether the replay is partly read, and last with 12 for a store that is too short; then no store is changed.
 pub fn read_into(file: &[u8], space: &mut Space) -> Result<(Game, Places), Refused> {
 	macro_rules! call {
 		($($store:ident)*) => {
@@ -100,6 +106,8 @@ pub fn read_into(file: &[u8], space: &mut Space) -> Result<(Game, Places), Refus
 pub struct Replay {
 	/// the game beside its columns
 	pub game: Game,
+	/// as in [`Measured`]; then [`save`](Replay::save) and [`rows`](crate::rows) refuse its version with 1, while its columns are those of 3.18
+	pub partly: bool,
 	/// as `ids` of [`Stores`]
 	pub ids: Vec<u32>,
 	/// as `starts` of [`Stores`]
@@ -170,7 +178,7 @@ impl Replay {
 		with_each!(lend)
 	}
 
-	/// Its file, or the refusal of [`write`](crate::write()), which what was read and not changed does not get. A file that [`write`](crate::write()) gave is the same again, byte for
+	/// Its file, or the refusal of [`write`](crate::write()), which what was read whole and not changed does not get. A file that [`write`](crate::write()) gave is the same again, byte for
 	/// byte, if its ports ascend and the seats that were not given have type 3 in its template. An odd tail is lost.
 	pub fn save(&self) -> Result<Vec<u8>, Refused> {
 		let stores = self.stores();
@@ -211,6 +219,7 @@ pub fn read(file: &[u8]) -> Result<Replay, Refused> {
 	let mut replay = Replay::of_lengths(&measured.lengths);
 	let (game, places) = read_into(file, &mut replay.space())?;
 	replay.game = game;
+	replay.partly = measured.partly;
 	replay.template_block = places.block(file).to_vec();
 	replay.metadata = places.metadata(file).to_vec();
 	replay.tail = places.tail;

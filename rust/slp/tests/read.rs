@@ -63,6 +63,52 @@ fn saved_again_it_is_the_same_file() {
 	assert_eq!(replay.save().unwrap(), out[..len]);
 }
 
+/// A file as a newer recorder might have it: another version, payloads longer by so many bytes, and an unknown event behind each.
+fn newer(file: &[u8], version: [u8; 3], more: usize) -> Vec<u8> {
+	const UNKNOWN: u8 = 0x42;
+	let (first, end) = (slp::first_place(file), 15 + u32::from_be_bytes(file[11..15].try_into().unwrap()) as usize);
+	let sizes: Vec<(u8, usize)> = file[17..first].chunks(3).map(|e| (e[0], usize::from(e[1]) << 8 | usize::from(e[2]))).collect();
+	let mut events = vec![0x35, (3 * sizes.len() + 4) as u8];
+	for &(code, size) in sizes.iter().chain([&(UNKNOWN, 1)]) {
+		let listed = if code == UNKNOWN || code == 0x3d { size } else { size + more };
+		events.extend([code, (listed >> 8) as u8, listed as u8]);
+	}
+	let (mut at, block) = (first, events.len() + 1);
+	while at < end {
+		let len = 1 + sizes.iter().find(|&&(code, _)| code == file[at]).unwrap().1;
+		events.extend(&file[at..at + len]);
+		events.extend(vec![9; more]);
+		events.extend([UNKNOWN, 0xff]);
+		at += len;
+	}
+	events[block..block + 3].copy_from_slice(&version);
+	[&file[..11], &(events.len() as u32).to_be_bytes(), &events, &file[end..]].concat()
+}
+
+#[test]
+fn a_newer_recorders_file_is_partly_read() {
+	let file = made().write().unwrap();
+	let was = slp::read(&file).unwrap();
+	assert!(!was.partly && !slp::measure(&file).unwrap().partly);
+	let row = |replay: &Replay| slp::rows::post_row(&replay.game.frames, &replay.stores(), 0, 0);
+	for (version, more) in [([3, 19, 7], 0), ([3, 18, 1], 1), ([3, 255, 255], 7), ([3, 19, 7], 300)] {
+		let file = newer(&file, version, more);
+		let mut replay = slp::read(&file).unwrap();
+		assert!(replay.partly && slp::measure(&file).unwrap().partly);
+		assert_eq!(replay.game.frames.version, slp::Version { major: version[0], minor: version[1], patch: version[2] });
+		assert_eq!(replay.template_block.len(), 760 + more);
+		assert_eq!(replay.save().unwrap_err().number, 1);
+		assert_eq!(row(&replay).unwrap_err().number, 1);
+		// all else is what it was
+		replay.game.frames.version = was.game.frames.version;
+		assert_eq!(row(&replay), row(&was));
+		(replay.partly, replay.template_block) = (false, was.template_block.clone());
+		assert_eq!(replay, was);
+	}
+	assert_eq!(refused(&newer(&file, [4, 0, 0], 0)), 1);
+	assert_eq!(refused(&newer(&file, [3, 18, 0], 0)), 19);
+}
+
 #[test]
 fn a_changed_cell_is_saved() {
 	let mut replay = slp::read(&made().write().unwrap()).unwrap();
@@ -95,7 +141,7 @@ fn refusals() {
 	assert_eq!(slp::read(&file[..20]), Err(Refused { number: 15, offset: 15 }));
 	assert_eq!(changed(start, 0x99), 16);
 	assert_eq!(changed(14, file[14] - 1), 17);
-	assert_eq!(changed(start + 3, 1), 1);
+	assert_eq!(changed(start + 1, 4), 1);
 	// cut, a seat of type 4, an initiator of 4
 	assert_eq!(refused(&file[..file.len() - 2]), 19);
 	assert_eq!(changed(start + 1 + 101, 4), 19);

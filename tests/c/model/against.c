@@ -6,7 +6,6 @@
 #include "check.h"
 #include "open.h"
 #include "same.h"
-#include "space.h"
 
 static opened_file by_model(const uint8_t *file, size_t len, slp_lengths n)
 {
@@ -80,4 +79,40 @@ unsigned check_file(const uint8_t *file, size_t len)
 	unsigned refused = f.o.refused;
 	free_opened(&f);
 	return refused;
+}
+
+size_t damaged_place(const model_file *f)
+{
+	if (below(4) == 0)
+		return below(60);
+	size_t k = below(f->events), at = k ? f->ends[k - 1] : 16 + (size_t)f->bytes[16];
+	return below(3) ? (at + below(7)) % f->len : below(f->len);
+}
+
+uint8_t damaged_byte(uint8_t was)
+{
+	static const uint8_t codes[] = { 0x10, 0x35, 0x36, 0x37, 0x38, 0x39, 0x3a, 0x3b, 0x3c, 0x3d, 0x3f, 0x40, 0x41, 0x7d, 0, 1, 2, 3, 4, 255 };
+	switch (below(3)) {
+	case 0: return (uint8_t)(was ^ 1 << below(8));
+	case 1: return codes[below(sizeof codes)];
+	default: return (uint8_t)draw();
+	}
+}
+
+unsigned check_damaged(model_file *f, lent_space *l)
+{
+	slp_lengths none = { 0 };
+	size_t at = damaged_place(f);
+	uint8_t was = f->bytes[at];
+	f->bytes[at] = damaged_byte(was);
+	slp_measured should = model_measure(f->bytes, f->len), m = slp_measure(f->bytes, f->len);
+	CHECK(same_measured(&m, &should));
+	if (should.refused) {
+		slp_opened o = guarded_read(f->bytes, f->len, l, &none), refused = { .refused = should.refused, .offset = should.offset };
+		CHECK(same_opened(&o, &refused));
+	} else {
+		check_file(f->bytes, f->len);
+	}
+	f->bytes[at] = was;
+	return m.refused;
 }

@@ -24,6 +24,7 @@ typedef struct {
 	const uint8_t *file;
 	size_t len, stop;             /* stop: where the event data ends */
 	slp_version version;
+	int partly;                   /* above 3.18.0: its events are those that 3.18 knows */
 	size_t sizes[FAMILIES];       /* of payloads */
 	event *events;
 	size_t n;
@@ -69,6 +70,38 @@ static void look_for_codes(replay *r)
 			r->listed = 1;
 			r->listed_size = number(r->file + entry + 1, 2);
 		}
+}
+
+/* ---- a newer recorder's events */
+
+/* How many bytes 3.18 knows of an event's payload, of the start block all that there are; or SIZE_MAX where it does not know the code at all. The table's own
+ * code and that of the codes are known, though no event has them. */
+static size_t known_size(const replay *r, const event *e)
+{
+	for (family k = PRE; k < FAMILIES; k++)
+		if (e->code == CODES[k])
+			return r->sizes[k];
+	switch (e->code) {
+	case 0x35: case 0x36: case 0x3d: return e->len;
+	case 0x39: return 6;
+	case 0x10: return 516;
+	default: return SIZE_MAX;
+	}
+}
+
+/* The others go, and what is longer is cut. */
+static void keep_known(replay *r)
+{
+	size_t kept = 0;
+	for (size_t i = 0; i < r->n; i++) {
+		event e = r->events[i];
+		size_t size = known_size(r, &e);
+		if (size == SIZE_MAX)
+			continue;
+		e.len = e.len < size ? e.len : size;
+		r->events[kept++] = e;
+	}
+	r->n = kept;
 }
 
 /* ---- the start block and the code blocks */
@@ -304,10 +337,13 @@ static unsigned open_replay(replay *r, const uint8_t *file, size_t len, size_t *
 	if (r->n == 0 || r->events[0].code != 0x36 || r->events[0].len < 4)
 		return 19;
 	memcpy(&r->version, r->events[0].payload, 3);
-	if (too_new(r->version))
+	if (r->version.major > 3)
 		return 1;
 	for (family k = PRE; k < FAMILIES; k++)
 		r->sizes[k] = (k == PRE || k == POST ? 6 : 4) + bytes_of(k, r->version);
+	r->partly = too_new(r->version);
+	if (r->partly)
+		keep_known(r);
 	if (!w.whole || !good_start(r) || !good_codes(r) || !good_frames(r) || !good_ends(r))
 		return 19;
 	slp_counts c = { r->frame_count, count_rows(r, ITEM), count_rows(r, FOD), count_rows(r, WHISPY), count_rows(r, STADIUM) };
@@ -365,6 +401,7 @@ slp_measured model_measure(const uint8_t *file, size_t len)
 	slp_measured m = { 0 };
 	m.refused = (uint8_t)open_replay(&r, file, len, &m.offset);
 	if (!m.refused) {
+		m.partly = (uint8_t)r.partly;
 		m.frames = frames_of(&r);
 		m.codes_given = codes_given(&r);
 		m.actual_size = (uint32_t)r.used;
@@ -610,6 +647,7 @@ slp_opened model_read(const uint8_t *file, size_t len, const slp_space *s)
 			o.refused = 12;
 		} else {
 			put_stores(s, &r, &f);
+			o.partly = (uint8_t)r.partly;
 			o.places = places_of(&r);
 			o.game = game_of(&r, o.places);
 		}

@@ -38,9 +38,9 @@ _Static_assert(sizeof(slp_game) == 1584 && offsetof(slp_game, start) == 152 && o
                offsetof(slp_game, double_end) == 1571 && offsetof(slp_game, actual_size) == 1576, "slp_game");
 _Static_assert(sizeof(slp_places) == 40 && offsetof(slp_places, tail) == 16 && offsetof(slp_places, metadata_at) == 24, "slp_places");
 _Static_assert(sizeof(slp_lengths) == 120 && offsetof(slp_lengths, item_offsets) == 72 && offsetof(slp_lengths, codes) == 112, "slp_lengths");
-_Static_assert(sizeof(slp_measured) == 336 && offsetof(slp_measured, frames) == 16 && offsetof(slp_measured, codes_given) == 168 &&
+_Static_assert(sizeof(slp_measured) == 336 && offsetof(slp_measured, partly) == 1 && offsetof(slp_measured, offset) == 8 && offsetof(slp_measured, frames) == 16 && offsetof(slp_measured, codes_given) == 168 &&
                offsetof(slp_measured, actual_size) == 172 && offsetof(slp_measured, lengths) == 176 && offsetof(slp_measured, places) == 296, "slp_measured");
-_Static_assert(sizeof(slp_opened) == 1640 && offsetof(slp_opened, game) == 16 && offsetof(slp_opened, places) == 1600, "slp_opened");
+_Static_assert(sizeof(slp_opened) == 1640 && offsetof(slp_opened, partly) == 1 && offsetof(slp_opened, offset) == 8 && offsetof(slp_opened, game) == 16 && offsetof(slp_opened, places) == 1600, "slp_opened");
 _Static_assert(SLP_FILE_TAIL_NONE == 0 && SLP_FILE_TAIL_METADATA == 1 && SLP_FILE_TAIL_ODD == 2, "tails");
 _Static_assert(sizeof(slp_plan) == 80 && offsetof(slp_plan, block) == 8 && offsetof(slp_plan, counts) == 24 && offsetof(slp_plan, codes) == 64 &&
                offsetof(slp_plan, metadata) == 72, "slp_plan");

@@ -310,44 +310,6 @@ static void every_cut(void)
 	}
 }
 
-/* Bytes that decide more than others: the head, the table, and the first bytes of events. */
-static size_t damaged_place(const model_file *f)
-{
-	if (below(4) == 0)
-		return below(60);
-	size_t k = below(f->events), at = k ? f->ends[k - 1] : 16 + (size_t)f->bytes[16];
-	return below(3) ? (at + below(7)) % f->len : below(f->len);
-}
-
-static uint8_t damaged_byte(uint8_t was)
-{
-	static const uint8_t codes[] = { 0x10, 0x35, 0x36, 0x37, 0x38, 0x39, 0x3a, 0x3b, 0x3c, 0x3d, 0x3f, 0x40, 0x41, 0x7d, 0, 1, 2, 3, 4, 255 };
-	switch (below(3)) {
-	case 0: return (uint8_t)(was ^ 1 << below(8));
-	case 1: return codes[below(sizeof codes)];
-	default: return (uint8_t)draw();
-	}
-}
-
-/* A file whose bytes are damaged one at a time, with stores that are lent once: a refusal leaves them alone. */
-static void check_damaged(model_file *f, lent_space *l)
-{
-	slp_lengths none = { 0 };
-	size_t at = damaged_place(f);
-	uint8_t was = f->bytes[at];
-	f->bytes[at] = damaged_byte(was);
-	slp_measured should = model_measure(f->bytes, f->len), m = slp_measure(f->bytes, f->len);
-	CHECK(same_measured(&m, &should));
-	meet(m.refused);
-	if (should.refused) {
-		slp_opened o = guarded_read(f->bytes, f->len, l, &none);
-		CHECK(o.refused == should.refused && o.offset == should.offset);
-	} else {
-		check_file(f->bytes, f->len);
-	}
-	f->bytes[at] = was;
-}
-
 static void damaged_bytes(void)
 {
 	memset(met, 0, sizeof met);
@@ -358,7 +320,7 @@ static void damaged_bytes(void)
 		each_length(&m.lengths, lens);
 		lent_space l = lend_space(lens);
 		for (int k = 0; k < (light ? 40 : 1000); k++)
-			check_damaged(&f, &l);
+			meet(check_damaged(&f, &l));
 		give_back_space(&l);
 		model_free(&f);
 	}

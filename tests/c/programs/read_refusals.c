@@ -224,10 +224,25 @@ static void check_reason(const reason *r, unsigned refused)
 	check_equal_at(answer(), refused, r->name, __FILE__, __LINE__);
 }
 
+/* A game of 3.18 becomes one of 3.19. */
+static void newer(void) { p.events[0].bytes[1] = 19; }
+
+/* There some are no reasons: as the model has it. */
+static void check_newer(const reason *r)
+{
+	whole_of((slp_version){ 3, 18, 0 });
+	newer();
+	r->change();
+	answer();
+}
+
 static void each_reason(void)
 {
-	for (size_t k = 0; k < sizeof REASONS / sizeof *REASONS; k++)
+	for (size_t k = 0; k < sizeof REASONS / sizeof *REASONS; k++) {
 		check_reason(&REASONS[k], 19);
+		if (REASONS[k].minor == 18)
+			check_newer(&REASONS[k]);
+	}
 }
 
 /* ---- what is just not a reason */
@@ -270,8 +285,11 @@ static const reason TAKEN[] = {
 
 static void no_reason(void)
 {
-	for (size_t k = 0; k < sizeof TAKEN / sizeof *TAKEN; k++)
+	for (size_t k = 0; k < sizeof TAKEN / sizeof *TAKEN; k++) {
 		check_reason(&TAKEN[k], 0);
+		if (TAKEN[k].minor == 18)
+			check_newer(&TAKEN[k]);
+	}
 }
 
 /* ---- tails */
@@ -325,7 +343,7 @@ static uint8_t *with_faults(unsigned set, size_t *len)
 	if (set & 1 << 6)
 		unlike_ends();
 	if (set & 1 << 5)
-		p.events[0].bytes[2] = 1;
+		p.events[0].bytes[0] = 4;
 	if (set & 1 << 4)
 		first_other();
 	if (set & 1 << 2) {
@@ -402,13 +420,20 @@ static void short_stores(void)
 
 /* ---- versions, and a length of zero */
 
+/* Above 3.18.0 a file is partly read; from 4.0.0 on it is not. */
 static void newer_versions(void)
 {
-	static const uint8_t versions[][4] = { { 3, 18, 0, 0 }, { 3, 18, 1, 1 }, { 3, 19, 0, 1 }, { 3, 255, 255, 1 }, { 4, 0, 0, 1 }, { 255, 0, 0, 1 } };
+	static const uint8_t versions[][5] = { { 3, 18, 0, 0, 0 }, { 3, 18, 1, 0, 1 }, { 3, 19, 0, 0, 1 }, { 3, 255, 255, 0, 1 }, { 4, 0, 0, 1, 0 }, { 255, 0, 0, 1, 0 } };
 	for (size_t k = 0; k < sizeof versions / sizeof *versions; k++) {
+		size_t len;
 		whole_of((slp_version){ 3, 18, 0 });
 		memcpy(p.events[0].bytes, versions[k], 3);
-		CHECK_EQ(answer(), versions[k][3]);
+		uint8_t *file = put_together(&p, &len);
+		opened_file f = check_opening(file, len);
+		CHECK_EQ(f.o.refused, versions[k][3]);
+		CHECK_EQ(f.o.partly, versions[k][4]);
+		free_opened(&f);
+		free(file);
 	}
 	/* four bytes of GameStart are enough for 1, and not for a block */
 	whole_of((slp_version){ 3, 18, 0 });
@@ -423,7 +448,7 @@ static void newer_versions(void)
 	whole_of((slp_version){ 3, 18, 0 });
 	uint8_t *file = put_together(&p, &len);
 	CHECK_EQ(check_file(file, len - p.tail_len - 1), 19);
-	file[slp_first_place(file, len) + 3] = 1;
+	file[slp_first_place(file, len) + 1] = 4;
 	CHECK_EQ(check_file(file, len - p.tail_len - 1), 1);
 	CHECK_EQ(check_file(file, slp_first_place(file, len) + 1 + p.events[0].len), 1);
 	CHECK_EQ(check_file(file, slp_first_place(file, len) + p.events[0].len), 19);
@@ -516,6 +541,11 @@ static void most_rows(void)
 		drop_piece(&p, find(&p, stages[k], 0));
 		check_maximum(find(&p, stages[k], 0), SLP_MAX_STAGE_ROWS);
 	}
+	one_frame((slp_version){ 3, 18, 0 });
+	newer();
+	resize(&p, WHISPY_CODE, 7);
+	drop_piece(&p, find(&p, WHISPY_CODE, 0));
+	check_maximum(find(&p, WHISPY_CODE, 0), SLP_MAX_STAGE_ROWS);
 	one_frame((slp_version){ 3, 0, 0 });
 	drop_piece(&p, find(&p, ITEM_CODE, 0));
 	check_maximum(find(&p, ITEM_CODE, 0), SLP_MAX_ITEMS);
@@ -524,12 +554,12 @@ static void most_rows(void)
 	check_maximum(find(&p, FRAME, 0), SLP_MAX_FRAMES);
 }
 
-/* Codes of one block more than there may be; `change` is a fault besides. */
-static unsigned too_many_codes(void (*change)(void), size_t blocks)
+/* Codes of one block more than there may be, of a version 3; `change` is a fault besides. */
+static unsigned too_many_codes(uint8_t minor, void (*change)(void), size_t blocks)
 {
 	static const size_t none[FILLED_STORES];
 	slp_lengths needed = { 0 };
-	whole_of((slp_version){ 3, 3, 0 });
+	whole_of((slp_version){ 3, minor, 0 });
 	*listed(&p, CODES) = (512 * blocks + 88) % 65536;
 	change();
 	big b = repeated(find(&p, BLOCK, 0), blocks);
@@ -546,11 +576,13 @@ static void unlisted_last(void) { insert_piece(&p, p.n, 0x98); unlist(&p, 0x98);
 
 static void most_codes(void)
 {
-	CHECK_EQ(too_many_codes(nothing, 32767), 12);
-	CHECK_EQ(too_many_codes(nothing, 32768), 2);
-	CHECK_EQ(too_many_codes(unlike_ends, 32768), 19);
-	CHECK_EQ(too_many_codes(version_too_new, 32768), 1);
-	CHECK_EQ(too_many_codes(unlisted_last, 32768), 16);
+	CHECK_EQ(too_many_codes(3, nothing, 32767), 12);
+	CHECK_EQ(too_many_codes(3, nothing, 32768), 2);
+	CHECK_EQ(too_many_codes(3, unlike_ends, 32768), 19);
+	CHECK_EQ(too_many_codes(3, version_too_new, 32768), 1);
+	CHECK_EQ(too_many_codes(3, unlisted_last, 32768), 16);
+	CHECK_EQ(too_many_codes(18, newer, 32767), 12);
+	CHECK_EQ(too_many_codes(18, newer, 32768), 2);
 }
 
 int main(int argc, char **argv)

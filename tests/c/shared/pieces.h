@@ -4,7 +4,7 @@
 
 #include "slp.h"
 
-enum { MOST_PIECES = 256, MOST_ENTRIES = 40, LONGEST_PIECE = 1024 };
+enum { MOST_PIECES = 256, MOST_ENTRIES = 40, LONGEST_PIECE = 1088 };
 
 typedef struct {
 	uint8_t code;

@@ -66,11 +66,11 @@ int same_places(const slp_places *a, const slp_places *b)
 
 int same_measured(const slp_measured *a, const slp_measured *b)
 {
-	return SAME(refused) && SAME(offset) && same_frames(&a->frames, &b->frames) && SAME(codes_given) && SAME(actual_size) && SAME(lengths) &&
+	return SAME(refused) && SAME(partly) && SAME(offset) && same_frames(&a->frames, &b->frames) && SAME(codes_given) && SAME(actual_size) && SAME(lengths) &&
 	       same_places(&a->places, &b->places);
 }
 
 int same_opened(const slp_opened *a, const slp_opened *b)
 {
-	return SAME(refused) && SAME(offset) && same_game(&a->game, &b->game) && same_places(&a->places, &b->places);
+	return SAME(refused) && SAME(partly) && SAME(offset) && same_game(&a->game, &b->game) && same_places(&a->places, &b->places);
 }

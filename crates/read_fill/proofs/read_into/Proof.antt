@@ -4,12 +4,16 @@ use borrow.Author.Needs.{needs}
 use Rattle.game.specs.Stores.{cells, offsets, lent}
 use Rattle.measure.specs.Game.{kept}
 use Rattle.measure.proofs.Answers.{small}
+use Rattle.newer_judge.proofs.Steps.{held-tells}
 use Rattle.read_fill.proofs.Rooms.{asked, codes-asked, learnt}
 use Rattle.read_fill.proofs.read_into.Statement.{statement}
 use Rattle.read_fill.proofs.read_into.Tie as tie
 
 frames-in-requires : tie.Need-frames-in-requires
-frames-in-requires c κs = let s = c .before .before .before .before .before .before .before .before .before .before .before .before .before .before .before .before in small (s .args .file .now) (s .args .first) (s .args .stop) (s .args .p) (s .pre .0)
+frames-in-requires c κs =
+    let s = c .before .before .before .before .before .before .before .before .before .before .before .before .before .before .before .before in
+    let a = s .args in
+    small (a .file .now) (a .first) (a .stop) (a .p) (held-tells (a .file .now) (a .first) (a .stop) (a .p) (s .pre .0))
 
 fill-events-requires : tie.Need-fill-events-requires
 fill-events-requires c κs =

@@ -24,8 +24,8 @@ returns c =
     held-short (a .file .now) (a .first) (a .stop) (a .p) k _ _ (s .pre) (b .result)
     (short-as (a .file .now) (a .first) (a .stop) (a .p) k k (c .not-opened .result) (s .pre) (b .result) _ (n .result) (b .ensures) refl (n .ensures)) (c .before .if1 .taken) (c .not-opened .ensures) refl
 
-read-into-requires : tie.Need-read-into-requires
-read-into-requires c κs =
+read-shown-requires : tie.Need-read-shown-requires
+read-shown-requires c κs =
     let s = c .before .before .before .before .before .before .before .before .before .before .before .before .before .before .before .before .before .before .before .before .before .before .before .before .before .before .before .before .before .before .before .before .before .before in
     let b = c .before .before .before .before .before .before .before .before .before .before .before .before .before .before .before .before .short in
     let n = c .before .before .before .before .before .before .before .before .before .before .before .before .before .before .before .before .before .lengths-in in
@@ -48,47 +48,47 @@ opened-requires c κs =
 same-length : tie.Need-same-length
 same-length c =
     let b16 = c .before .before .before .before .before .before .before .before .before .before .before .before .before .before .before .before in
-    b16 .before .before .before .before .before .before .before .before .before .before .before .before .before .before .before .before .read-into .kept .1 .1 .1 .1 .0
+    b16 .before .before .before .before .before .before .before .before .before .before .before .before .before .before .before .before .read-shown .kept .1 .1 .1 .1 .0
 
 same-length-2 : tie.Need-same-length-2
 same-length-2 c =
     let b16 = c .before .before .before .before .before .before .before .before .before .before .before .before .before .before .before .before in
-    b16 .before .before .before .before .before .before .before .before .before .before .before .before .before .before .before .before .read-into .kept .1 .1 .1 .1 .1 .0
+    b16 .before .before .before .before .before .before .before .before .before .before .before .before .before .before .before .before .read-shown .kept .1 .1 .1 .1 .1 .0
 
 same-length-3 : tie.Need-same-length-3
 same-length-3 c =
     let b16 = c .before .before .before .before .before .before .before .before .before .before .before .before .before .before .before .before in
-    b16 .before .before .before .before .before .before .before .before .before .before .before .before .before .before .before .before .read-into .kept .1 .1 .1 .1 .1 .1 .0
+    b16 .before .before .before .before .before .before .before .before .before .before .before .before .before .before .before .before .read-shown .kept .1 .1 .1 .1 .1 .1 .0
 
 same-length-4 : tie.Need-same-length-4
 same-length-4 c =
     let b16 = c .before .before .before .before .before .before .before .before .before .before .before .before .before .before .before .before in
-    b16 .before .before .before .before .before .before .before .before .before .before .before .before .before .before .before .before .read-into .kept .1 .1 .1 .1 .1 .1 .1 .0
+    b16 .before .before .before .before .before .before .before .before .before .before .before .before .before .before .before .before .read-shown .kept .1 .1 .1 .1 .1 .1 .1 .0
 
 same-length-5 : tie.Need-same-length-5
 same-length-5 c =
     let b16 = c .before .before .before .before .before .before .before .before .before .before .before .before .before .before .before .before in
-    b16 .before .before .before .before .before .before .before .before .before .before .before .before .before .before .before .before .read-into .kept .1 .1 .1 .1 .1 .1 .1 .1 .0
+    b16 .before .before .before .before .before .before .before .before .before .before .before .before .before .before .before .before .read-shown .kept .1 .1 .1 .1 .1 .1 .1 .1 .0
 
 same-length-6 : tie.Need-same-length-6
 same-length-6 c =
     let b16 = c .before .before .before .before .before .before .before .before .before .before .before .before .before .before .before .before in
-    b16 .before .before .before .before .before .before .before .before .before .before .before .before .before .before .before .before .read-into .kept .1 .1 .1 .1 .1 .1 .1 .1 .1 .0
+    b16 .before .before .before .before .before .before .before .before .before .before .before .before .before .before .before .before .read-shown .kept .1 .1 .1 .1 .1 .1 .1 .1 .1 .0
 
 same-length-7 : tie.Need-same-length-7
 same-length-7 c =
     let b16 = c .before .before .before .before .before .before .before .before .before .before .before .before .before .before .before .before in
-    b16 .before .before .before .before .before .before .before .before .before .before .before .before .before .before .before .before .read-into .kept .1 .1 .1 .1 .1 .1 .1 .1 .1 .1 .0
+    b16 .before .before .before .before .before .before .before .before .before .before .before .before .before .before .before .before .read-shown .kept .1 .1 .1 .1 .1 .1 .1 .1 .1 .1 .0
 
 same-length-8 : tie.Need-same-length-8
 same-length-8 c =
     let b16 = c .before .before .before .before .before .before .before .before .before .before .before .before .before .before .before .before in
-    b16 .before .before .before .before .before .before .before .before .before .before .before .before .before .before .before .before .read-into .kept .1 .1 .1 .1 .1 .1 .1 .1 .1 .1 .1 .0
+    b16 .before .before .before .before .before .before .before .before .before .before .before .before .before .before .before .before .read-shown .kept .1 .1 .1 .1 .1 .1 .1 .1 .1 .1 .1 .0
 
 same-length-9 : tie.Need-same-length-9
 same-length-9 c =
     let b16 = c .before .before .before .before .before .before .before .before .before .before .before .before .before .before .before .before in
-    b16 .before .before .before .before .before .before .before .before .before .before .before .before .before .before .before .before .read-into .kept .1 .1 .1 .1 .1 .1 .1 .1 .1 .1 .1 .1 .0
+    b16 .before .before .before .before .before .before .before .before .before .before .before .before .before .before .before .before .read-shown .kept .1 .1 .1 .1 .1 .1 .1 .1 .1 .1 .1 .1 .0
 
 returns-2 : tie.Need-returns-2
 returns-2 c =
@@ -104,11 +104,11 @@ returns-2 c =
     let n = b48 .before .before .lengths-in in
     held-opened (a .file .now) (a .first) (a .stop) (a .p) k _ _ (s .pre) (b .result)
     (short-as (a .file .now) (a .first) (a .stop) (a .p) k k (c .opened .result) (s .pre) (b .result) _ (n .result) (b .ensures) refl (n .ensures)) (b48 .if1 .left) (c .opened .ensures (s .pre))
-    (b32 .read-into .ensures (s .pre))
+    (b32 .read-shown .ensures (s .pre))
 
 pub read-held-spec : {M : Type 1} → statement M
 read-held-spec =
     tie.close
-    (tie.spec lengths-in-requires (λ c κs. search needs) (λ c κs. search needs) returns read-into-requires gecko-span-requires opened-requires same-length same-length-2 same-length-3 same-length-4
+    (tie.spec lengths-in-requires (λ c κs. search needs) (λ c κs. search needs) returns read-shown-requires gecko-span-requires opened-requires same-length same-length-2 same-length-3 same-length-4
     same-length-5 same-length-6 same-length-7 same-length-8 same-length-9 (λ c. search needs) (λ c. search needs) (λ c. search needs) (λ c. search needs) (λ c. search needs) (λ c. search needs)
     returns-2)

@@ -42,7 +42,9 @@ judge-parts-requires c κs =
     let a = s .args in
     let e = c .before .before .before .before .before .before .first-event in
     let o = c .before .before .before .before .e .given in
+    let x = c .before .before .accepted in
     started (a .file .now) (a .spans .now) (a .first) (a .stop) (a .whole) (s .pre) (not-left (a .whole) (c .if2 .left)) (o .0 .0) (o .0 .1 .0) (e .result) (e .ensures) (o .1)
+    (sym (x .ensures) ∙ not-left (x .result) (c .before .if1 .left))
 
 unless-walk-refused-requires-4 : tie.Need-unless-walk-refused-requires-4
 unless-walk-refused-requires-4 c κs k =

@@ -9,6 +9,7 @@ returns c =
     let a = c .before .before .before .args in
     λ i. record {
       refused = a .number;
+      partly = 0;
       offset = a .offset;
       frames = c .before .before .no-frames .ensures i;
       «codes_given» = 0;

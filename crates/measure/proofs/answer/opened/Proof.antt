@@ -26,10 +26,11 @@ cast-size c = record { fits = omega (arith, small _ _ _ _ (c .before .before .be
 
 returns : tie.Need-returns
 returns c =
-    let c5 = c .before .before .before .before .before in
+    let b = c .before in
+    let c5 = b .before .before .before .before .before in
     let s = c5 .before .before .before .before .before in
-    λ a. opened-is _ _ _ _ a _ (s .pre .0) _ (c5 .before .frames-in .ensures) _ (c .before .before .before .codes-by .ensures) _ (c5 .before .before .before .places .ensures) _ (c5 .before .before .start-in .ensures) _ (c5 .end-by .ensures) _
-    (c .before .before .before .before .mark .ensures) _ (c .before .mark2 .ensures)
+    λ a. opened-is _ _ _ _ a _ (s .pre .0) _ (c5 .before .frames-in .ensures) _ (b .before .before .before .codes-by .ensures) _ (c5 .before .before .before .places .ensures) _ (c .partly-by .ensures) _ (c5 .before .before .start-in .ensures) _ (c5 .end-by .ensures) _
+    (b .before .before .before .before .mark .ensures) _ (b .before .mark2 .ensures)
 
 pub opened-spec : {M : Type 1} → statement M
-opened-spec = tie.close (tie.spec places-requires add-start start-in-requires frames-in-requires end-by-requires (λ c κs. search needs) (λ c κs. search needs) (λ c. search needs) (λ c κs. search needs) cast-size returns)
+opened-spec = tie.close (tie.spec places-requires add-start start-in-requires frames-in-requires end-by-requires (λ c κs. search needs) (λ c κs. search needs) (λ c. search needs) (λ c κs. search needs) cast-size (λ c κs. search needs) returns)

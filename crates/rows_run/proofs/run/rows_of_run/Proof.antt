@@ -3,7 +3,7 @@
 use mathlib.Core.Path.{sym, _∙_}
 use Rattle.frames.proofs.Accepted.{accepted}
 use Rattle.wire.proofs.Writers.{wrote-length}
-use Rattle.rows_run.specs.Run.{familyOf}
+use Rattle.rows_run.specs.Run.{familyAt}
 use Rattle.rows_run.proofs.Runs.{few-rows}
 use Rattle.rows_run.proofs.Judged.{run-judged}
 use Rattle.rows_run.proofs.Outcomes.{refused-run, run-running, run-has-room, written-run}
@@ -11,7 +11,7 @@ use Rattle.rows_run.proofs.run.rows_of_run.Statement.{statement}
 use Rattle.rows_run.proofs.run.rows_of_run.Tie as tie
 
 run-refused-requires : tie.Need-run-refused-requires
-run-refused-requires c κs = λ e. let a = c .before .before .before .before .before .before .before .before .before .before .before .before .before .before .before .before .args in few-rows (a .f) (familyOf (a .family)) (accepted _ _ 0 0 (sym (c .judge .ensures) ∙ e) .modest)
+run-refused-requires c κs = λ e. let a = c .before .before .before .before .before .before .before .before .before .before .before .before .before .before .before .before .args in few-rows (a .f) (familyAt (a .family)) (accepted _ _ 0 0 (sym (c .judge .ensures) ∙ e) .modest)
 
 returns : tie.Need-returns
 returns c = refused-run _ _ _ _ _ _ _ (c .before .run-refused .ensures ∙ run-judged _ _ _ _ _ _ _ _ (c .before .before .judge .ensures)) (c .if1 .taken)

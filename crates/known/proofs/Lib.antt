@@ -1,0 +1,3 @@
+pub mod Newest
+pub mod Codes
+pub mod Fronts

@@ -1,0 +1,14 @@
+pub mod Cases
+pub mod Late
+pub mod Exact
+pub mod Good
+pub mod Same
+pub mod Start
+pub mod Made
+pub mod Before
+pub mod Number
+pub mod Payloads
+pub mod Tree
+pub mod Shown
+pub mod Beside
+pub mod Files

@@ -1,0 +1,5 @@
+pub mod Places
+pub mod Tests
+pub mod Runs
+pub mod Copies
+pub mod Cases

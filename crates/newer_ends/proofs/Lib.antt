@@ -1,0 +1,3 @@
+pub mod Tests
+pub mod Found
+pub mod Cases
