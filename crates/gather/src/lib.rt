@@ -37,7 +37,7 @@ fn get_fours(file: &[u8], places: &[usize], i: usize, off: usize, cells: &mut [u
     }
 }
 
-// The same of a column of single bytes.
+// The eight cells of a column of single bytes.
 fn get_ones(file: &[u8], places: &[usize], i: usize, off: usize, cells: &mut [u32], first: usize)
     requires { ⌜ (first + 8 ≤ length (now cells))
         × (i + 8 ≤ length (now places))
@@ -52,7 +52,7 @@ fn get_ones(file: &[u8], places: &[usize], i: usize, off: usize, cells: &mut [u3
     }
 }
 
-// The same of any width. Four bytes that end at a cell's end are read, and those above it are dropped: by one number for all eight.
+// The eight cells of a column of any width. Four bytes that end at a cell's end are read, and those above it are dropped: by one number for all eight.
 fn get_narrow(
     file: &[u8],
     places: &[usize],

@@ -7,7 +7,8 @@ ghost use Rattle.format.specs.File.{Ev};
 ghost use Rattle.newer_events.specs.Some.{SomeCovers};
 ghost use Rattle.newer_places.specs.Known.{KnownIn, SomeKnown};
 ghost use Rattle.read_event.specs.Inner.{none};
-ghost use Rattle.read_event.specs.Parts.{rows, rowPlan, RowSpans, RowRooms, rowsRun};
+ghost use Rattle.read_event.specs.Known.{Parted, planIn};
+ghost use Rattle.read_event.specs.Parts.{rows, RowSpans, RowRooms, rowsRun};
 ghost use Rattle.newer_rows.specs.Inner.{isRow, Passed};
 use format::event::DREAMLAND_WHISPY;
 use format::event::FOD_PLATFORM;
@@ -15,12 +16,11 @@ use format::event::FRAME_END;
 use format::event::FRAME_START;
 use format::event::ITEM;
 use format::event::STADIUM_TRANSFORMATION;
-use game::frames::Counts;
+use read_event::known::Known;
 use read_event::marks::mark_offsets;
 use read_event::seen::Next;
 use read_event::seen::Open;
 use read_event::seen::Seen;
-use read_event::spans::Spans;
 use read_scan::event::span_of;
 use read_turn::turn::turn;
 
@@ -69,20 +69,14 @@ fn next_row(file: &[u8], spans: &[u32], at: usize, stop: usize) -> usize
     e
 }
 
-// The known events between two places into the stores. The version has every family.
+// The known events between two places into the stores. A FrameStart begins each frame.
 pub fn pass(
     file: &[u8],
     spans: &[u32],
     first: usize,
     stop: usize,
-    z: Spans,
-    start: &[u8],
-    end: &[u8],
-    item: &[u8],
-    fod: &[u8],
-    whispy: &[u8],
-    stadium: &[u8],
-    c: Counts,
+    widths: &[u8],
+    k: Known,
     ids: &mut [u32],
     starts: &mut [u32],
     ends: &mut [u32],
@@ -95,14 +89,16 @@ pub fn pass(
     whispy_offsets: &mut [u32],
     stadium_offsets: &mut [u32],
 )
-    requires { ⌜ (let q = rowPlan (now start) (now end) (now item) (now fod) (now whispy) (now stadium) true true true c in
-        RowSpans z q
+    requires { ⌜ (let q = planIn k (now widths) in
+        RowSpans (k .course .spans) q
+        × (k .course .start ≡ true)
         × (length (now spans) ≡ 256)
-        × SomeKnown z (now file) (now spans) first stop
-        × RowRooms q (rows (now ids) (now starts) (now ends) (now items) (now fods) (now whispys) (now stadiums) (now «item_offsets») (now «fod_offsets») (now «whispy_offsets») (now «stadium_offsets»))) ⌝ }
-    ensures { λ r. ⌜ ((es : List Ev) → KnownIn z (now (file .entry)) (now (spans .entry)) first stop es
+        × SomeKnown (k .course .spans) (now file) (now spans) first stop
+        × RowRooms q (rows (now ids) (now starts) (now ends) (now items) (now fods) (now whispys) (now stadiums) (now «item_offsets») (now «fod_offsets») (now «whispy_offsets») (now «stadium_offsets»))
+        × Parted (k .borders) (now widths)) ⌝ }
+    ensures { λ r. ⌜ ((es : List Ev) → KnownIn (k .course .spans) (now (file .entry)) (now (spans .entry)) first stop es
         → rows (now (ids .exit)) (now (starts .exit)) (now (ends .exit)) (now (items .exit)) (now (fods .exit)) (now (whispys .exit)) (now (stadiums .exit)) (now («item_offsets» .exit)) (now («fod_offsets» .exit)) (now («whispy_offsets» .exit)) (now («stadium_offsets» .exit))
-        ≡ rowsRun (rowPlan (now (start .entry)) (now (end .entry)) (now (item .entry)) (now (fod .entry)) (now (whispy .entry)) (now (stadium .entry)) true true true c) es
+        ≡ rowsRun (planIn k (now (widths .entry))) es
         (rows (now (ids .entry)) (now (starts .entry)) (now (ends .entry)) (now (items .entry)) (now (fods .entry)) (now (whispys .entry)) (now (stadiums .entry)) (now («item_offsets» .entry)) (now («fod_offsets» .entry)) (now («whispy_offsets» .entry)) (now («stadium_offsets» .entry)))) ⌝ }
 {
     let mut s = nothing();
@@ -112,18 +108,9 @@ pub fn pass(
         s = turn(
             file,
             at,
-            z,
             s,
-            start,
-            end,
-            item,
-            fod,
-            whispy,
-            stadium,
-            true,
-            true,
-            true,
-            c,
+            widths,
+            k,
             ids,
             starts,
             ends,
@@ -140,8 +127,8 @@ pub fn pass(
     }
     mark_offsets(
         true,
-        true,
-        true,
+        k.item,
+        k.stage,
         s.opened.frames,
         s.next,
         item_offsets,

@@ -11,6 +11,7 @@ ghost use Rattle.read_event.specs.Parts.{WholeBy, seats, seating, SeatSpans, Se
 ghost use Rattle.read_eights.specs.Bits.{bitsPut};
 ghost use Rattle.read_places.specs.Inner.{isPlayers, seat, frameAt, framesAt};
 ghost use Rattle.read_eights.specs.Inner.{SameHeads, acrossAt, teamAt};
+use format::event::FRAME_PRE;
 use gather::get_records;
 use read_event::seats::block_at;
 use read_event::seats::put_players;
@@ -92,7 +93,7 @@ fn put_seat(
 {
     let block = block_at(file, places[i], numbers);
     if block < numbers.len() {
-        if code == 0x37 {
+        if code == FRAME_PRE {
             let row = block * (pre.len() * frames) + n;
             get_records(file, places, i, 7, pre, pres, frames, row);
             put_bits(block, frames, n, presence);

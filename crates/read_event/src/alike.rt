@@ -7,6 +7,7 @@ ghost use Rattle.read_event.specs.Parts.{WholeBy};
 ghost use Rattle.read_event.specs.Alike.{Same, Ahead, GoesOn, stepsPut};
 use super::spans::Spans;
 use super::spans::span_of;
+use format::event::FRAME_START;
 
 // Eight bytes a step apart are the same.
 pub fn is_repeated(file: &[u8], at: usize, step: usize) -> bool
@@ -55,7 +56,7 @@ pub fn is_ahead(
     if frames < first + 7 {
         return false;
     }
-    if file[at] != 0x3A {
+    if file[at] != FRAME_START {
         return false;
     }
     is_repeated(file, at, step)
@@ -67,7 +68,7 @@ pub fn goes_on(file: &[u8], z: Spans, e: usize, next: usize, step: usize) -> usi
     ensures { λ r. ⌜ (0 < r → GoesOn z (now (file .entry)) e next step r) ⌝ }
 {
     let code = file[e];
-    if code == 0x3A {
+    if code == FRAME_START {
         return 0;
     }
     let span = span_of(z, code);

@@ -1,5 +1,6 @@
 // What one event of a frame puts into lent stores: a row, a player's row and bit, a frame's id and offsets.
 pub mod alike;
+pub mod known;
 pub mod marks;
 pub mod numbers;
 pub mod rows;

@@ -3,8 +3,12 @@ ghost use mathlib.Core.Path.{_≡_};
 ghost use mathlib.Core.Bool.{true, _&&_};
 ghost use Prim.Native.Nat.{_<_};
 ghost use Rattle.read_event.specs.Inner.{marked, offsetMarked, opens, openAfter};
+use super::known::Known;
 use super::seen::Next;
 use super::seen::Open;
+use super::seen::Seen;
+use format::event::FRAME_PRE;
+use format::event::FRAME_START;
 
 // A number at an index, where it is wanted and the index is there.
 pub fn mark(cells: &mut [u32], on: bool, n: usize, x: u32)
@@ -55,9 +59,9 @@ pub fn is_first(start: bool, frames: usize, o: Open, code: u8, id: u32) -> bool
         return false;
     }
     if start {
-        return code == 0x3A;
+        return code == FRAME_START;
     }
-    if code != 0x37 {
+    if code != FRAME_PRE {
         return false;
     }
     if o.frames == 0 {
@@ -82,39 +86,37 @@ pub fn opened(on: bool, id: u32, o: Open, frames: usize) -> Open
 
 // A frame's id and offsets, where an event is its first.
 pub fn begin(
-    start: bool,
-    item: bool,
-    stage: bool,
-    frames: usize,
+    k: Known,
     code: u8,
     id: u32,
-    o: Open,
-    next: Next,
+    s: Seen,
     ids: &mut [u32],
     item_offsets: &mut [u32],
     fod_offsets: &mut [u32],
     whispy_offsets: &mut [u32],
     stadium_offsets: &mut [u32],
 ) -> Open
-    ensures { λ r. ⌜ (let on = opens start frames o code id in (r ≡ openAfter on id o)
-        × (now (ids .exit) ≡ marked on (o .frames) id (now (ids .entry)))
-        × (now («item_offsets» .exit) ≡ offsetMarked (on && item) (o .frames) (next .items) (now («item_offsets» .entry)))
-        × (now («fod_offsets» .exit) ≡ offsetMarked (on && stage) (o .frames) (next .fods) (now («fod_offsets» .entry)))
-        × (now («whispy_offsets» .exit) ≡ offsetMarked (on && stage) (o .frames) (next .whispys) (now («whispy_offsets» .entry)))
-        × (now («stadium_offsets» .exit) ≡ offsetMarked (on && stage) (o .frames) (next .stadiums) (now («stadium_offsets» .entry)))) ⌝ }
+    ensures { λ r. ⌜ (let n = s .opened .frames in let on = opens (k .course .start) (k .course .counts .frames) (s .opened) code id in (r ≡ openAfter on id (s .opened))
+        × (now (ids .exit) ≡ marked on n id (now (ids .entry)))
+        × (now («item_offsets» .exit) ≡ offsetMarked (on && k .item) n (s .next .items) (now («item_offsets» .entry)))
+        × (now («fod_offsets» .exit) ≡ offsetMarked (on && k .stage) n (s .next .fods) (now («fod_offsets» .entry)))
+        × (now («whispy_offsets» .exit) ≡ offsetMarked (on && k .stage) n (s .next .whispys) (now («whispy_offsets» .entry)))
+        × (now («stadium_offsets» .exit) ≡ offsetMarked (on && k .stage) n (s .next .stadiums) (now («stadium_offsets» .entry)))) ⌝ }
 {
-    let on = is_first(start, frames, o, code, id);
+    let c = k.course;
+    let o = s.opened;
+    let on = is_first(c.start, c.counts.frames, o, code, id);
     mark(ids, on, o.frames, id);
     mark_offsets(
         on,
-        item,
-        stage,
+        k.item,
+        k.stage,
         o.frames,
-        next,
+        s.next,
         item_offsets,
         fod_offsets,
         whispy_offsets,
         stadium_offsets,
     );
-    opened(on, id, o, frames)
+    opened(on, id, o, c.counts.frames)
 }

@@ -4,8 +4,15 @@ ghost use Prim.Native.Nat.{_≤_};
 ghost use lib.Dec.{eqb};
 ghost use lib.ListN.{drop};
 ghost use Rattle.read_event.specs.Inner.{Roomy, rowPut, rowNext, Long, nextAfter, stageAfter};
+ghost use Rattle.read_event.specs.Known.{Parted, planIn};
+use super::known::Known;
 use super::seen::Next;
-use game::frames::Counts;
+use format::event::DREAMLAND_WHISPY;
+use format::event::FOD_PLATFORM;
+use format::event::FRAME_END;
+use format::event::FRAME_START;
+use format::event::ITEM;
+use format::event::STADIUM_TRANSFORMATION;
 
 // A row, where the event is of the family and the store has that row. Answers the next row.
 pub fn put_row(
@@ -35,39 +42,53 @@ fn put_stage(
     code: u8,
     file: &[u8],
     at: usize,
-    fod: &[u8],
-    whispy: &[u8],
-    stadium: &[u8],
-    c: Counts,
+    widths: &[u8],
+    k: Known,
     n: Next,
     fods: &mut [u32],
     whispys: &mut [u32],
     stadiums: &mut [u32],
 ) -> Next
-    requires { ⌜ (4 ≤ at)
-        × (Long (now file) at (eqb code 0x3F) (now fod) × Roomy (now fod) (now fods) 1 (c .fods))
-        × (Long (now file) at (eqb code 0x40) (now whispy) × Roomy (now whispy) (now whispys) 1 (c .whispys))
-        × (Long (now file) at (eqb code 0x41) (now stadium) × Roomy (now stadium) (now stadiums) 1 (c .stadiums)) ⌝ }
-    ensures { λ r. ⌜ (r ≡ stageAfter code c n)
-        × (now (fods .exit) ≡ rowPut (eqb code 0x3F) (now (fod .entry)) (drop at (now (file .entry))) (c .fods) (n .fods) (now (fods .entry)))
-        × (now (whispys .exit) ≡ rowPut (eqb code 0x40) (now (whispy .entry)) (drop at (now (file .entry))) (c .whispys) (n .whispys) (now (whispys .entry)))
-        × (now (stadiums .exit) ≡ rowPut (eqb code 0x41) (now (stadium .entry)) (drop at (now (file .entry))) (c .stadiums) (n .stadiums) (now (stadiums .entry))) ⌝ }
+    requires { ⌜ (let q = planIn k (now widths) in (4 ≤ at)
+        × Parted (k .borders) (now widths)
+        × (Long (now file) at (eqb code 0x3F) (q .fod) × Roomy (q .fod) (now fods) 1 (q .counts .fods))
+        × (Long (now file) at (eqb code 0x40) (q .whispy) × Roomy (q .whispy) (now whispys) 1 (q .counts .whispys))
+        × (Long (now file) at (eqb code 0x41) (q .stadium) × Roomy (q .stadium) (now stadiums) 1 (q .counts .stadiums))) ⌝ }
+    ensures { λ r. ⌜ (let q = planIn k (now (widths .entry)) in (r ≡ stageAfter code (q .counts) n)
+        × (now (fods .exit) ≡ rowPut (eqb code 0x3F) (q .fod) (drop at (now (file .entry))) (q .counts .fods) (n .fods) (now (fods .entry)))
+        × (now (whispys .exit) ≡ rowPut (eqb code 0x40) (q .whispy) (drop at (now (file .entry))) (q .counts .whispys) (n .whispys) (now (whispys .entry)))
+        × (now (stadiums .exit) ≡ rowPut (eqb code 0x41) (q .stadium) (drop at (now (file .entry))) (q .counts .stadiums) (n .stadiums) (now (stadiums .entry)))) ⌝ }
 {
-    let e = put_row(code == 0x3F, file, at, fod, fods, c.fods, n.fods);
-    let g = put_row(
-        code == 0x40,
+    let t = k.course;
+    let c = t.counts;
+    let b = k.borders;
+    let fod = b.item;
+    let whispy = b.fod;
+    let stadium = b.whispy;
+    let end = b.stadium;
+    let e = put_row(
+        code == FOD_PLATFORM,
         file,
         at,
-        whispy,
+        &widths[fod..whispy],
+        fods,
+        c.fods,
+        n.fods,
+    );
+    let g = put_row(
+        code == DREAMLAND_WHISPY,
+        file,
+        at,
+        &widths[whispy..stadium],
         whispys,
         c.whispys,
         n.whispys,
     );
     let h = put_row(
-        code == 0x41,
+        code == STADIUM_TRANSFORMATION,
         file,
         at,
-        stadium,
+        &widths[stadium..end],
         stadiums,
         c.stadiums,
         n.stadiums,
@@ -87,13 +108,8 @@ pub fn put_rows(
     code: u8,
     file: &[u8],
     at: usize,
-    start: &[u8],
-    end: &[u8],
-    item: &[u8],
-    fod: &[u8],
-    whispy: &[u8],
-    stadium: &[u8],
-    c: Counts,
+    widths: &[u8],
+    k: Known,
     n: Next,
     starts: &mut [u32],
     ends: &mut [u32],
@@ -102,23 +118,38 @@ pub fn put_rows(
     whispys: &mut [u32],
     stadiums: &mut [u32],
 ) -> Next
-    requires { ⌜ (4 ≤ at)
-        × (Long (now file) at (eqb code 0x3A) (now start) × Roomy (now start) (now starts) 1 (c .frames))
-        × (Long (now file) at (eqb code 0x3C) (now end) × Roomy (now end) (now ends) 1 (c .frames))
-        × (Long (now file) at (eqb code 0x3B) (now item) × Roomy (now item) (now items) 1 (c .items))
-        × (Long (now file) at (eqb code 0x3F) (now fod) × Roomy (now fod) (now fods) 1 (c .fods))
-        × (Long (now file) at (eqb code 0x40) (now whispy) × Roomy (now whispy) (now whispys) 1 (c .whispys))
-        × (Long (now file) at (eqb code 0x41) (now stadium) × Roomy (now stadium) (now stadiums) 1 (c .stadiums)) ⌝ }
-    ensures { λ r. ⌜ (r ≡ nextAfter code c n)
-        × (now (starts .exit) ≡ rowPut (eqb code 0x3A) (now (start .entry)) (drop at (now (file .entry))) (c .frames) (n .starts) (now (starts .entry)))
-        × (now (ends .exit) ≡ rowPut (eqb code 0x3C) (now (end .entry)) (drop at (now (file .entry))) (c .frames) (n .ends) (now (ends .entry)))
-        × (now (items .exit) ≡ rowPut (eqb code 0x3B) (now (item .entry)) (drop at (now (file .entry))) (c .items) (n .items) (now (items .entry)))
-        × (now (fods .exit) ≡ rowPut (eqb code 0x3F) (now (fod .entry)) (drop at (now (file .entry))) (c .fods) (n .fods) (now (fods .entry)))
-        × (now (whispys .exit) ≡ rowPut (eqb code 0x40) (now (whispy .entry)) (drop at (now (file .entry))) (c .whispys) (n .whispys) (now (whispys .entry)))
-        × (now (stadiums .exit) ≡ rowPut (eqb code 0x41) (now (stadium .entry)) (drop at (now (file .entry))) (c .stadiums) (n .stadiums) (now (stadiums .entry))) ⌝ }
+    requires { ⌜ (let q = planIn k (now widths) in (4 ≤ at)
+        × Parted (k .borders) (now widths)
+        × (Long (now file) at (eqb code 0x3A) (q .start) × Roomy (q .start) (now starts) 1 (q .counts .frames))
+        × (Long (now file) at (eqb code 0x3C) (q .end) × Roomy (q .end) (now ends) 1 (q .counts .frames))
+        × (Long (now file) at (eqb code 0x3B) (q .item) × Roomy (q .item) (now items) 1 (q .counts .items))
+        × (Long (now file) at (eqb code 0x3F) (q .fod) × Roomy (q .fod) (now fods) 1 (q .counts .fods))
+        × (Long (now file) at (eqb code 0x40) (q .whispy) × Roomy (q .whispy) (now whispys) 1 (q .counts .whispys))
+        × (Long (now file) at (eqb code 0x41) (q .stadium) × Roomy (q .stadium) (now stadiums) 1 (q .counts .stadiums))) ⌝ }
+    ensures { λ r. ⌜ (let q = planIn k (now (widths .entry)) in (r ≡ nextAfter code (q .counts) n)
+        × (now (starts .exit) ≡ rowPut (eqb code 0x3A) (q .start) (drop at (now (file .entry))) (q .counts .frames) (n .starts) (now (starts .entry)))
+        × (now (ends .exit) ≡ rowPut (eqb code 0x3C) (q .end) (drop at (now (file .entry))) (q .counts .frames) (n .ends) (now (ends .entry)))
+        × (now (items .exit) ≡ rowPut (eqb code 0x3B) (q .item) (drop at (now (file .entry))) (q .counts .items) (n .items) (now (items .entry)))
+        × (now (fods .exit) ≡ rowPut (eqb code 0x3F) (q .fod) (drop at (now (file .entry))) (q .counts .fods) (n .fods) (now (fods .entry)))
+        × (now (whispys .exit) ≡ rowPut (eqb code 0x40) (q .whispy) (drop at (now (file .entry))) (q .counts .whispys) (n .whispys) (now (whispys .entry)))
+        × (now (stadiums .exit) ≡ rowPut (eqb code 0x41) (q .stadium) (drop at (now (file .entry))) (q .counts .stadiums) (n .stadiums) (now (stadiums .entry)))) ⌝ }
 {
-    if code == 0x3A {
-        let row = put_row(code == 0x3A, file, at, start, starts, c.frames, n.starts);
+    let t = k.course;
+    let c = t.counts;
+    let b = k.borders;
+    let end = b.start;
+    let item = b.end;
+    let fod = b.item;
+    if code == FRAME_START {
+        let row = put_row(
+            code == FRAME_START,
+            file,
+            at,
+            &widths[..end],
+            starts,
+            c.frames,
+            n.starts,
+        );
         return Next {
             starts: row,
             ends: n.ends,
@@ -128,8 +159,16 @@ pub fn put_rows(
             stadiums: n.stadiums,
         };
     }
-    if code == 0x3C {
-        let row = put_row(code == 0x3C, file, at, end, ends, c.frames, n.ends);
+    if code == FRAME_END {
+        let row = put_row(
+            code == FRAME_END,
+            file,
+            at,
+            &widths[end..item],
+            ends,
+            c.frames,
+            n.ends,
+        );
         return Next {
             starts: n.starts,
             ends: row,
@@ -139,8 +178,16 @@ pub fn put_rows(
             stadiums: n.stadiums,
         };
     }
-    if code == 0x3B {
-        let row = put_row(code == 0x3B, file, at, item, items, c.items, n.items);
+    if code == ITEM {
+        let row = put_row(
+            code == ITEM,
+            file,
+            at,
+            &widths[item..fod],
+            items,
+            c.items,
+            n.items,
+        );
         return Next {
             starts: n.starts,
             ends: n.ends,
@@ -150,17 +197,5 @@ pub fn put_rows(
             stadiums: n.stadiums,
         };
     }
-    put_stage(
-        code,
-        file,
-        at,
-        fod,
-        whispy,
-        stadium,
-        c,
-        n,
-        fods,
-        whispys,
-        stadiums,
-    )
+    put_stage(code, file, at, widths, k, n, fods, whispys, stadiums)
 }

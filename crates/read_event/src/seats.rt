@@ -6,6 +6,8 @@ ghost use lib.Dec.{eqb};
 ghost use lib.ListN.{length, getD};
 ghost use Rattle.format.specs.File.{indexOf};
 ghost use Rattle.read_event.specs.Inner.{Roomy, toldAt, blockOf, playerPut, bitPut, Long};
+use format::event::FRAME_POST;
+use format::event::FRAME_PRE;
 
 // Which of the slots' numbers comes first with this value; behind all of them where none has it.
 fn block_of(numbers: &[u32], slot: usize) -> usize
@@ -123,10 +125,19 @@ pub fn put_players(
         × (now (presence .exit)
         ≡ bitPut (eqb code 0x37) (now (numbers .entry)) (toldAt (now (file .entry)) at) frames n (now (presence .entry))) ⌝ }
 {
-    if code == 0x37 {
-        put_player(code == 0x37, file, at, pre, numbers, frames, n, pres);
-        put_bit(code == 0x37, file, at, numbers, frames, n, presence);
+    if code == FRAME_PRE {
+        put_player(code == FRAME_PRE, file, at, pre, numbers, frames, n, pres);
+        put_bit(code == FRAME_PRE, file, at, numbers, frames, n, presence);
         return;
     }
-    put_player(code == 0x38, file, at, post, numbers, frames, n, posts);
+    put_player(
+        code == FRAME_POST,
+        file,
+        at,
+        post,
+        numbers,
+        frames,
+        n,
+        posts,
+    );
 }

@@ -2,6 +2,14 @@
 ghost use mathlib.Core.Path.{_≡_};
 ghost use Prim.Native.Nat.{_<_};
 ghost use Rattle.read_event.specs.Inner.{spanBy};
+use format::event::DREAMLAND_WHISPY;
+use format::event::FOD_PLATFORM;
+use format::event::FRAME_END;
+use format::event::FRAME_POST;
+use format::event::FRAME_PRE;
+use format::event::FRAME_START;
+use format::event::ITEM;
+use format::event::STADIUM_TRANSFORMATION;
 
 pub struct Spans {
     pub pre: usize,
@@ -19,10 +27,10 @@ pub fn player_span(z: Spans, code: u8) -> usize
     requires { ⌜ code < 0x3A ⌝ }
     ensures { λ r. ⌜ r ≡ spanBy z code ⌝ }
 {
-    if code == 0x37 {
+    if code == FRAME_PRE {
         return z.pre;
     }
-    if code == 0x38 {
+    if code == FRAME_POST {
         return z.post;
     }
     0
@@ -32,25 +40,25 @@ pub fn player_span(z: Spans, code: u8) -> usize
 pub fn span_of(z: Spans, code: u8) -> usize
     ensures { λ r. ⌜ r ≡ spanBy z code ⌝ }
 {
-    if code < 0x3A {
+    if code < FRAME_START {
         return player_span(z, code);
     }
-    if code == 0x3A {
+    if code == FRAME_START {
         return z.start;
     }
-    if code == 0x3B {
+    if code == ITEM {
         return z.item;
     }
-    if code == 0x3C {
+    if code == FRAME_END {
         return z.end;
     }
-    if code == 0x3F {
+    if code == FOD_PLATFORM {
         return z.fod;
     }
-    if code == 0x40 {
+    if code == DREAMLAND_WHISPY {
         return z.whispy;
     }
-    if code == 0x41 {
+    if code == STADIUM_TRANSFORMATION {
         return z.stadium;
     }
     0

@@ -6,33 +6,37 @@ ghost use lib.Dec.{ltb};
 ghost use lib.ListN.{length};
 ghost use Rattle.layout.specs.Columns.{sum};
 ghost use Rattle.read_event.specs.Inner.{Roomy};
+ghost use Rattle.read_event.specs.Known.{Parted, planIn};
 ghost use Rattle.read_event.specs.Parts.{SomeBy};
 ghost use Rattle.read_leap.specs.Inner.{idsPut, offsetsPut, rowsPut, seenThen, Leapt, Leaps};
+use format::event::FRAME_END;
+use format::event::FRAME_START;
 use gather::get_records;
 use read_event::alike::goes_on;
 use read_event::alike::is_ahead;
 use read_event::alike::put_steps;
+use read_event::known::Course;
+use read_event::known::Known;
 use read_event::marks::mark;
 use read_event::seen::Next;
 use read_event::seen::Open;
 use read_event::seen::Seen;
-use read_event::spans::Spans;
+
+// Eight frames a step apart: where the first of them begins, and where its players' events end.
+pub struct Stride {
+    pub at: usize,
+    pub step: usize,
+    pub end: usize,
+}
 
 // Where the players' events of the first of them end; 0 where they are not alike.
-fn ends_at(
-    file: &[u8],
-    z: Spans,
-    start: bool,
-    at: usize,
-    stop: usize,
-    step: usize,
-    was: usize,
-    frames: usize,
-) -> usize
-    requires { ⌜ (at < stop) × (was ≤ 1048576) × SomeBy z (now file) at stop ⌝ }
-    ensures { λ r. ⌜ (0 < r → Leapt z start (now (file .entry)) at stop step was frames r) ⌝ }
+fn ends_at(file: &[u8], c: Course, at: usize, stop: usize, step: usize, was: usize) -> usize
+    requires { ⌜ (at < stop) × (was ≤ 1048576) × SomeBy (c .spans) (now file) at stop ⌝ }
+    ensures { λ r. ⌜ (0 < r → Leapt (c .spans) (c .start) (now (file .entry)) at stop step was (c .counts .frames) r) ⌝ }
 {
-    if is_ahead(file, z, start, at, stop, step, was + 1, frames) {
+    let z = c.spans;
+    let n = c.counts;
+    if is_ahead(file, z, c.start, at, stop, step, was + 1, n.frames) {
         let next = at + step;
         let mut e = at + z.start;
         while e < next {
@@ -41,8 +45,8 @@ fn ends_at(
                 return 0;
             }
             let code = file[e];
-            if 0x3A <= code {
-                if code != 0x3C {
+            if FRAME_START <= code {
+                if code != FRAME_END {
                     return 0;
                 }
                 if e + span != next {
@@ -57,27 +61,19 @@ fn ends_at(
     0
 }
 
-// The same at a FrameStart, where the stores have their rows: the frames are as far apart as it is behind the last one.
-pub fn leaps_at(
-    file: &[u8],
-    z: Spans,
-    start: bool,
-    at: usize,
-    stop: usize,
-    last: usize,
-    s: Seen,
-    frames: usize,
-) -> usize
-    requires { ⌜ (at < stop) × (at < length (now file)) × (last ≤ at) × SomeBy z (now file) at stop ⌝ }
-    ensures { λ r. ⌜ (0 < r → Leaps z start (now (file .entry)) at stop (at - last) s frames r) ⌝ }
+// Where they end at a FrameStart, where the stores have their rows: the frames are as far apart as it is behind the last one.
+pub fn leaps_at(file: &[u8], c: Course, at: usize, stop: usize, last: usize, s: Seen) -> usize
+    requires { ⌜ (at < stop) × (at < length (now file)) × (last ≤ at) × SomeBy (c .spans) (now file) at stop ⌝ }
+    ensures { λ r. ⌜ (0 < r → Leaps (c .spans) (c .start) (now (file .entry)) at stop (at - last) s (c .counts .frames) r) ⌝ }
 {
-    if file[at] != 0x3A {
+    if file[at] != FRAME_START {
         return 0;
     }
     let step = at - last;
     if step < 5 {
         return 0;
     }
+    let frames = c.counts.frames;
     if frames < 8 {
         return 0;
     }
@@ -90,7 +86,7 @@ pub fn leaps_at(
     if 1048576 < s.opened.frames {
         return 0;
     }
-    ends_at(file, z, start, at, stop, step, s.opened.frames, frames)
+    ends_at(file, c, at, stop, step, s.opened.frames)
 }
 
 // Their ids.
@@ -145,22 +141,24 @@ fn put_stepped(
 // Their ends, where they have any. Answers the next row.
 fn put_ends(
     file: &[u8],
-    e: usize,
-    next: usize,
-    step: usize,
-    end: &[u8],
+    l: Stride,
+    widths: &[u8],
     frames: usize,
     row: usize,
     ends: &mut [u32],
 ) -> usize
-    requires { ⌜ (e < next → e + (7 * step + (5 + sum (now end))) ≤ length (now file))
-        × Roomy (now end) (now ends) 1 frames
+    requires { ⌜ (l .at + l .step ≤ length (now file))
+        × (l .end < l .at + l .step → l .end + (7 * l .step + (5 + sum (now widths))) ≤ length (now file))
+        × Roomy (now widths) (now ends) 1 frames
         × (row + 8 ≤ frames) ⌝ }
-    ensures { λ r. ⌜ (now (ends .exit) ≡ cond (ltb e next) (rowsPut (now (end .entry)) (now (file .entry)) e step 8 (now (ends .entry)) frames row) (now (ends .entry)))
-        × (r ≡ cond (ltb e next) (row + 8) row) ⌝ }
+    ensures { λ r. ⌜ (let on = ltb (l .end) (l .at + l .step) in
+        (now (ends .exit) ≡ cond on (rowsPut (now (widths .entry)) (now (file .entry)) (l .end) (l .step) 8 (now (ends .entry)) frames row) (now (ends .entry)))
+        × (r ≡ cond on (row + 8) row)) ⌝ }
 {
+    let e = l.end;
+    let next = l.at + l.step;
     if e < next {
-        put_stepped(file, e, step, end, ends, frames, row);
+        put_stepped(file, e, l.step, widths, ends, frames, row);
         return row + 8;
     }
     row
@@ -169,15 +167,10 @@ fn put_ends(
 // All of them. Answers what was seen then.
 pub fn leap(
     file: &[u8],
-    at: usize,
-    step: usize,
-    e: usize,
+    l: Stride,
     s: Seen,
-    start: &[u8],
-    end: &[u8],
-    has_item: bool,
-    has_stage: bool,
-    frames: usize,
+    widths: &[u8],
+    k: Known,
     ids: &mut [u32],
     starts: &mut [u32],
     ends: &mut [u32],
@@ -186,32 +179,50 @@ pub fn leap(
     whispy_offsets: &mut [u32],
     stadium_offsets: &mut [u32],
 ) -> Seen
-    requires { ⌜ (at + 8 * step ≤ length (now file))
-        × (5 + sum (now start) ≤ step)
-        × (e < at + step → e + (7 * step + (5 + sum (now end))) ≤ length (now file))
-        × Roomy (now start) (now starts) 1 frames
-        × Roomy (now end) (now ends) 1 frames
+    requires { ⌜ (let q = planIn k (now widths) in
+        (l .at + 8 * l .step ≤ length (now file))
+        × (5 + sum (q .start) ≤ l .step)
+        × (l .end < l .at + l .step → l .end + (7 * l .step + (5 + sum (q .end))) ≤ length (now file))
+        × Roomy (q .start) (now starts) 1 (q .counts .frames)
+        × Roomy (q .end) (now ends) 1 (q .counts .frames)
         × (s .opened .frames ≤ 1048576)
-        × (s .next .starts + 8 ≤ frames)
-        × (s .next .ends + 8 ≤ frames) ⌝ }
-    ensures { λ r. ⌜ (r ≡ seenThen (now (file .entry)) at step (ltb e (at + step)) 8 s)
-        × (now (ids .exit) ≡ idsPut (now (file .entry)) at step 8 (s .opened .frames) (now (ids .entry)))
-        × (now (starts .exit) ≡ rowsPut (now (start .entry)) (now (file .entry)) at step 8 (now (starts .entry)) frames (s .next .starts))
-        × (now (ends .exit) ≡ cond (ltb e (at + step)) (rowsPut (now (end .entry)) (now (file .entry)) e step 8 (now (ends .entry)) frames (s .next .ends)) (now (ends .entry)))
-        × (now («item_offsets» .exit) ≡ offsetsPut «has_item» 8 (s .opened .frames) (s .next .items) (now («item_offsets» .entry)))
-        × (now («fod_offsets» .exit) ≡ offsetsPut «has_stage» 8 (s .opened .frames) (s .next .fods) (now («fod_offsets» .entry)))
-        × (now («whispy_offsets» .exit) ≡ offsetsPut «has_stage» 8 (s .opened .frames) (s .next .whispys) (now («whispy_offsets» .entry)))
-        × (now («stadium_offsets» .exit) ≡ offsetsPut «has_stage» 8 (s .opened .frames) (s .next .stadiums) (now («stadium_offsets» .entry))) ⌝ }
+        × (s .next .starts + 8 ≤ q .counts .frames)
+        × (s .next .ends + 8 ≤ q .counts .frames)
+        × Parted (k .borders) (now widths)) ⌝ }
+    ensures { λ r. ⌜ (let q = planIn k (now (widths .entry)) in
+        let on = ltb (l .end) (l .at + l .step) in
+        let n = s .opened .frames in
+        (r ≡ seenThen (now (file .entry)) (l .at) (l .step) on 8 s)
+        × (now (ids .exit) ≡ idsPut (now (file .entry)) (l .at) (l .step) 8 n (now (ids .entry)))
+        × (now (starts .exit) ≡ rowsPut (q .start) (now (file .entry)) (l .at) (l .step) 8 (now (starts .entry)) (q .counts .frames) (s .next .starts))
+        × (now (ends .exit) ≡ cond on (rowsPut (q .end) (now (file .entry)) (l .end) (l .step) 8 (now (ends .entry)) (q .counts .frames) (s .next .ends)) (now (ends .entry)))
+        × (now («item_offsets» .exit) ≡ offsetsPut (q .hasItem) 8 n (s .next .items) (now («item_offsets» .entry)))
+        × (now («fod_offsets» .exit) ≡ offsetsPut (q .hasStage) 8 n (s .next .fods) (now («fod_offsets» .entry)))
+        × (now («whispy_offsets» .exit) ≡ offsetsPut (q .hasStage) 8 n (s .next .whispys) (now («whispy_offsets» .entry)))
+        × (now («stadium_offsets» .exit) ≡ offsetsPut (q .hasStage) 8 n (s .next .stadiums) (now («stadium_offsets» .entry)))) ⌝ }
 {
     let n = s.opened.frames;
-    put_ids(file, at, step, n, ids);
-    put_stepped(file, at, step, start, starts, frames, s.next.starts);
-    let next_end = put_ends(file, e, at + step, step, end, frames, s.next.ends, ends);
-    put_offsets(has_item, n, s.next.items, item_offsets);
-    put_offsets(has_stage, n, s.next.fods, fod_offsets);
-    put_offsets(has_stage, n, s.next.whispys, whispy_offsets);
-    put_offsets(has_stage, n, s.next.stadiums, stadium_offsets);
-    let id = wire::get_be(file, at + 7 * step + 1, 4);
+    let c = k.course;
+    let frames = c.counts.frames;
+    let b = k.borders;
+    let end = b.start;
+    let item = b.end;
+    put_ids(file, l.at, l.step, n, ids);
+    put_stepped(
+        file,
+        l.at,
+        l.step,
+        &widths[..end],
+        starts,
+        frames,
+        s.next.starts,
+    );
+    let next_end = put_ends(file, l, &widths[end..item], frames, s.next.ends, ends);
+    put_offsets(k.item, n, s.next.items, item_offsets);
+    put_offsets(k.stage, n, s.next.fods, fod_offsets);
+    put_offsets(k.stage, n, s.next.whispys, whispy_offsets);
+    put_offsets(k.stage, n, s.next.stadiums, stadium_offsets);
+    let id = wire::get_be(file, l.at + 7 * l.step + 1, 4);
     Seen {
         opened: Open { frames: n + 8, id },
         next: Next {

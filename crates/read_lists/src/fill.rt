@@ -1,44 +1,47 @@
 // The rows of a file's frames into lent stores.
 ghost use mathlib.Core.Path.{_≡_};
 ghost use mathlib.Core.List.{List};
+ghost use Prim.Native.Nat.{_+_, _≤_};
+ghost use lib.ListN.{length};
 ghost use Rattle.format.specs.File.{Ev};
-ghost use Rattle.layout.specs.Inner.{Widths};
-ghost use Rattle.layout.specs.declared.columns.Family.the-variants.{FrameStart, Item, FrameEnd, FodPlatform, DreamlandWhispy, StadiumTransformation};
+ghost use Rattle.wire.specs.Wire.{Wrote};
+ghost use Rattle.layout.specs.Columns.{widthsOf};
 ghost use Rattle.read_event.specs.Inner.{planOf, spansOf};
 ghost use Rattle.read_event.specs.Parts.{SpelledBy, SomeBy, rows, RowRooms, rowPlanOf, rowsRun};
+ghost use Rattle.read_lists.specs.Inner.{Tabled};
 use format::version::Version;
 use game::frames::Frames;
 use layout::columns::Family;
-use layout::listing::Listing;
 use layout::listing::widths;
+use read_event::known::Borders;
+use read_event::known::Course;
+use read_event::known::Known;
 use read_event::spans::Spans;
 use read_rows::pass::pass;
 
-// The columns of six families.
-struct Listings {
-    start: Listing,
-    end: Listing,
-    item: Listing,
-    fod: Listing,
-    whispy: Listing,
-    stadium: Listing,
+// The widths of a family's columns into a table. Answers where they end.
+fn put_family(table: &mut [u8], at: usize, family: Family, v: Version) -> usize
+    requires { ⌜ at + 32 ≤ length (now table) ⌝ }
+    ensures { λ r. ⌜ Wrote (now (table .entry)) (now (table .exit)) at r (widthsOf family v) × (r ≤ at + 32) ⌝ }
+{
+    let l = widths(family, v);
+    let n = l.count;
+    let w = l.widths;
+    wire::put_bytes(table, at, &w[..n])
 }
 
-fn listed(v: Version) -> Listings
-    ensures { λ r. ⌜ Widths FrameStart v (r .start .count) (r .start .bytes) (r .start .widths)
-        × Widths FrameEnd v (r .end .count) (r .end .bytes) (r .end .widths)
-        × Widths Item v (r .item .count) (r .item .bytes) (r .item .widths)
-        × Widths FodPlatform v (r .fod .count) (r .fod .bytes) (r .fod .widths)
-        × Widths DreamlandWhispy v (r .whispy .count) (r .whispy .bytes) (r .whispy .widths)
-        × Widths StadiumTransformation v (r .stadium .count) (r .stadium .bytes) (r .stadium .widths) ⌝ }
+// Those of six families, one after another. Answers where each family's end.
+pub fn put_all(table: &mut [u8], v: Version) -> Borders
+    requires { ⌜ 192 ≤ length (now table) ⌝ }
+    ensures { λ r. ⌜ Tabled v r (now (table .exit)) ⌝ }
 {
-    let start = widths(Family::FrameStart, v);
-    let end = widths(Family::FrameEnd, v);
-    let item = widths(Family::Item, v);
-    let fod = widths(Family::FodPlatform, v);
-    let whispy = widths(Family::DreamlandWhispy, v);
-    let stadium = widths(Family::StadiumTransformation, v);
-    Listings {
+    let start = put_family(table, 0, Family::FrameStart, v);
+    let end = put_family(table, start, Family::FrameEnd, v);
+    let item = put_family(table, end, Family::Item, v);
+    let fod = put_family(table, item, Family::FodPlatform, v);
+    let whispy = put_family(table, fod, Family::DreamlandWhispy, v);
+    let stadium = put_family(table, whispy, Family::StadiumTransformation, v);
+    Borders {
         start,
         end,
         item,
@@ -76,40 +79,29 @@ pub fn fill_rows(
         (rows (now (ids .entry)) (now (starts .entry)) (now (ends .entry)) (now (items .entry)) (now (fods .entry)) (now (whispys .entry)) (now (stadiums .entry)) (now («item_offsets» .entry)) (now («fod_offsets» .entry)) (now («whispy_offsets» .entry)) (now («stadium_offsets» .entry)))) ⌝ }
 {
     let v = f.version;
-    let l = listed(v);
-    let start_n = l.start.count;
-    let start_l = l.start;
-    let start_w = start_l.widths;
-    let end_n = l.end.count;
-    let end_l = l.end;
-    let end_w = end_l.widths;
-    let item_n = l.item.count;
-    let item_l = l.item;
-    let item_w = item_l.widths;
-    let fod_n = l.fod.count;
-    let fod_l = l.fod;
-    let fod_w = fod_l.widths;
-    let whispy_n = l.whispy.count;
-    let whispy_l = l.whispy;
-    let whispy_w = whispy_l.widths;
-    let stadium_n = l.stadium.count;
-    let stadium_l = l.stadium;
-    let stadium_w = stadium_l.widths;
+    let counts = f.counts;
+    let mut table = [0u8; 192];
+    let borders = put_all(&mut table, v);
+    let start = Family::FrameStart.exists(v);
+    let item = Family::Item.exists(v);
+    let stage = Family::FodPlatform.exists(v);
+    let course = Course {
+        spans: z,
+        start,
+        counts,
+    };
+    let k = Known {
+        course,
+        item,
+        stage,
+        borders,
+    };
     pass(
         file,
         first,
         stop,
-        z,
-        &start_w[..start_n],
-        &end_w[..end_n],
-        &item_w[..item_n],
-        &fod_w[..fod_n],
-        &whispy_w[..whispy_n],
-        &stadium_w[..stadium_n],
-        Family::FrameStart.exists(v),
-        Family::Item.exists(v),
-        Family::FodPlatform.exists(v),
-        f.counts,
+        &table,
+        k,
         ids,
         starts,
         ends,

@@ -7,6 +7,9 @@ ghost use Rattle.grammar.specs.WellFormed.{Each};
 ghost use Rattle.read_event.specs.Inner.{toldAt};
 ghost use Rattle.read_event.specs.Parts.{SomeBy, WholeBy, openTold};
 ghost use Rattle.read_places.specs.Inner.{isPlayers, openOf, Scanned, Batched, Stays};
+use format::event::FRAME_POST;
+use format::event::FRAME_PRE;
+use format::event::FRAME_START;
 use read_event::marks::is_first;
 use read_event::marks::opened;
 use read_event::seen::Open;
@@ -33,10 +36,10 @@ pub struct Batch {
 pub fn is_players(code: u8) -> bool
     ensures { λ r. ⌜ r ≡ isPlayers code ⌝ }
 {
-    if code == 0x37 {
+    if code == FRAME_PRE {
         return true;
     }
-    code == 0x38
+    code == FRAME_POST
 }
 
 // What began after the event at a place.
@@ -62,9 +65,9 @@ fn stays(file: &[u8], e: usize, stop: usize, start: bool, frames: usize, o: Open
     }
     let code = file[e];
     if start {
-        return code != 0x3A;
+        return code != FRAME_START;
     }
-    if code != 0x37 {
+    if code != FRAME_PRE {
         return true;
     }
     if o.frames == 0 {

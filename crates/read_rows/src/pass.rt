@@ -5,14 +5,16 @@ ghost use lib.ListN.{length};
 ghost use mathlib.Core.List.{List};
 ghost use Rattle.format.specs.File.{Ev};
 ghost use Rattle.read_event.specs.Inner.{none};
-ghost use Rattle.read_event.specs.Parts.{SpelledBy, SomeBy, rows, rowPlan, RowSpans, RowRooms, rowsRun};
-use game::frames::Counts;
+ghost use Rattle.read_event.specs.Known.{Parted, planIn};
+ghost use Rattle.read_event.specs.Parts.{SpelledBy, SomeBy, rows, RowSpans, RowRooms, rowsRun};
+use format::event::FRAME_START;
+use read_event::known::Known;
 use read_event::marks::mark_offsets;
 use read_event::seen::Next;
 use read_event::seen::Open;
 use read_event::seen::Seen;
-use read_event::spans::Spans;
 use read_event::spans::span_of;
+use read_leap::leap::Stride;
 use read_leap::leap::leap;
 use read_leap::leap::leaps_at;
 use read_turn::quiet::after_quiet;
@@ -40,7 +42,7 @@ fn last_at(file: &[u8], at: usize, last: usize) -> usize
     requires { ⌜ (at < length (now file)) × (last ≤ at) ⌝ }
     ensures { λ r. ⌜ r ≤ at ⌝ }
 {
-    if file[at] == 0x3A {
+    if file[at] == FRAME_START {
         return at;
     }
     last
@@ -51,17 +53,8 @@ pub fn pass(
     file: &[u8],
     first: usize,
     stop: usize,
-    z: Spans,
-    start: &[u8],
-    end: &[u8],
-    item: &[u8],
-    fod: &[u8],
-    whispy: &[u8],
-    stadium: &[u8],
-    has_start: bool,
-    has_item: bool,
-    has_stage: bool,
-    c: Counts,
+    widths: &[u8],
+    k: Known,
     ids: &mut [u32],
     starts: &mut [u32],
     ends: &mut [u32],
@@ -74,33 +67,32 @@ pub fn pass(
     whispy_offsets: &mut [u32],
     stadium_offsets: &mut [u32],
 )
-    requires { ⌜ (let q = rowPlan (now start) (now end) (now item) (now fod) (now whispy) (now stadium) «has_start» «has_item» «has_stage» c in
-        RowSpans z q
-        × SomeBy z (now file) first stop
-        × RowRooms q (rows (now ids) (now starts) (now ends) (now items) (now fods) (now whispys) (now stadiums) (now «item_offsets») (now «fod_offsets») (now «whispy_offsets») (now «stadium_offsets»))) ⌝ }
-    ensures { λ r. ⌜ ((es : List Ev) → SpelledBy z (now (file .entry)) first stop es
+    requires { ⌜ (let q = planIn k (now widths) in
+        RowSpans (k .course .spans) q
+        × SomeBy (k .course .spans) (now file) first stop
+        × RowRooms q (rows (now ids) (now starts) (now ends) (now items) (now fods) (now whispys) (now stadiums) (now «item_offsets») (now «fod_offsets») (now «whispy_offsets») (now «stadium_offsets»))
+        × Parted (k .borders) (now widths)) ⌝ }
+    ensures { λ r. ⌜ ((es : List Ev) → SpelledBy (k .course .spans) (now (file .entry)) first stop es
         → rows (now (ids .exit)) (now (starts .exit)) (now (ends .exit)) (now (items .exit)) (now (fods .exit)) (now (whispys .exit)) (now (stadiums .exit)) (now («item_offsets» .exit)) (now («fod_offsets» .exit)) (now («whispy_offsets» .exit)) (now («stadium_offsets» .exit))
-        ≡ rowsRun (rowPlan (now (start .entry)) (now (end .entry)) (now (item .entry)) (now (fod .entry)) (now (whispy .entry)) (now (stadium .entry)) «has_start» «has_item» «has_stage» c) es
+        ≡ rowsRun (planIn k (now (widths .entry))) es
         (rows (now (ids .entry)) (now (starts .entry)) (now (ends .entry)) (now (items .entry)) (now (fods .entry)) (now (whispys .entry)) (now (stadiums .entry)) (now («item_offsets» .entry)) (now («fod_offsets» .entry)) (now («whispy_offsets» .entry)) (now («stadium_offsets» .entry)))) ⌝ }
 {
+    let c = k.course;
+    let z = c.spans;
     let mut s = nothing();
     let mut at = first;
     let mut last = first;
     while at < stop {
-        let e = leaps_at(file, z, has_start, at, stop, last, s, c.frames);
+        let e = leaps_at(file, c, at, stop, last, s);
         if 0 < e {
             let step = at - last;
+            let l = Stride { at, step, end: e };
             s = leap(
                 file,
-                at,
-                step,
-                e,
+                l,
                 s,
-                start,
-                end,
-                has_item,
-                has_stage,
-                c.frames,
+                widths,
+                k,
                 ids,
                 starts,
                 ends,
@@ -117,18 +109,9 @@ pub fn pass(
             s = turn(
                 file,
                 at,
-                z,
                 s,
-                start,
-                end,
-                item,
-                fod,
-                whispy,
-                stadium,
-                has_start,
-                has_item,
-                has_stage,
-                c,
+                widths,
+                k,
                 ids,
                 starts,
                 ends,
@@ -141,13 +124,13 @@ pub fn pass(
                 whispy_offsets,
                 stadium_offsets,
             );
-            at = after_quiet(file, z, has_start, s.opened, next, stop);
+            at = after_quiet(file, z, c.start, s.opened, next, stop);
         }
     }
     mark_offsets(
         true,
-        has_item,
-        has_stage,
+        k.item,
+        k.stage,
         s.opened.frames,
         s.next,
         item_offsets,

@@ -6,6 +6,8 @@ ghost use lib.ListN.{length, getD};
 ghost use Rattle.read_event.specs.Inner.{toldAt};
 ghost use Rattle.read_event.specs.Parts.{SomeBy, firstBy};
 ghost use Rattle.read_turn.specs.Inner.{Nothing};
+use format::event::FRAME_POST;
+use format::event::FRAME_PRE;
 use read_event::seen::Open;
 use read_event::spans::Spans;
 use read_event::spans::player_span;
@@ -16,10 +18,10 @@ fn is_quiet(file: &[u8], at: usize, start: bool, o: Open) -> bool
     ensures { λ r. ⌜ (r ≡ true → (getD (now (file .entry)) at 0 < 0x3A) × ((frames : ℕ) → firstBy start frames o (toldAt (now (file .entry)) at) ≡ false)) ⌝ }
 {
     let code = file[at];
-    if code == 0x38 {
+    if code == FRAME_POST {
         return true;
     }
-    if code != 0x37 {
+    if code != FRAME_PRE {
         return false;
     }
     if start {

@@ -1,10 +1,10 @@
 -- `newer_rows::pass::pass` meets its contract.
 -- Assumes nothing.
-use mathlib.Core.Path.{refl, _∙_}
-use mathlib.Core.Bool.{true}
+use mathlib.Core.Path.{_∙_}
 use Prim.Native.Nat.{_-_}
 use native.Mathlib.Omega.{arith}
-use Rattle.read_event.specs.Parts.{rows, rowPlan}
+use Rattle.read_event.specs.Known.{planIn}
+use Rattle.read_event.specs.Parts.{rows}
 use Rattle.read_rows.proofs.Passing.{offsets-done}
 use Rattle.newer_rows.proofs.Passing.{Filling, filling-first, filling-rooms, filling-whole, filling-span, filling-covers, filling-on, filling-done}
 use Rattle.newer_rows.proofs.pass.pass.Statement.{statement}
@@ -18,46 +18,47 @@ use Rattle.read_scan.proofs.event.span_of.Reads as span-of-reads
 use Rattle.read_turn.proofs.turn.turn.Reads as turn-reads
 
 abbrev Inv-loop : tie.InvT-loop
-Inv-loop file spans first stop z start end item fod whispy stadium c ids₀ starts₀ ends₀ items₀ fods₀ whispys₀ stadiums₀ io₀ fo₀ wo₀ so₀ s₀ at₀ ids starts ends items fods whispys stadiums io fo wo so s at =
-    Filling z (rowPlan start end item fod whispy stadium true true true c) file spans first stop (rows ids₀ starts₀ ends₀ items₀ fods₀ whispys₀ stadiums₀ io₀ fo₀ wo₀ so₀) (rows ids starts ends items fods whispys stadiums io fo wo so) s at
+Inv-loop file spans first stop widths k ids₀ starts₀ ends₀ items₀ fods₀ whispys₀ stadiums₀ io₀ fo₀ wo₀ so₀ s₀ at₀ ids starts ends items fods whispys stadiums io fo wo so s at =
+    Filling (k .course .spans) (planIn k widths) file spans first stop (rows ids₀ starts₀ ends₀ items₀ fods₀ whispys₀ stadiums₀ io₀ fo₀ wo₀ so₀) (rows ids starts ends items fods whispys stadiums io fo wo so) s at
 
 abbrev μ-loop : tie.MeasureT-loop
-μ-loop file spans first stop z start end item fod whispy stadium c ids₀ starts₀ ends₀ items₀ fods₀ whispys₀ stadiums₀ io₀ fo₀ wo₀ so₀ s₀ at₀ ids starts ends items fods whispys stadiums io fo wo so s at = stop - at
+μ-loop file spans first stop widths k ids₀ starts₀ ends₀ items₀ fods₀ whispys₀ stadiums₀ io₀ fo₀ wo₀ so₀ s₀ at₀ ids starts ends items fods whispys stadiums io fo wo so s at = stop - at
 
 nothing-requires : tie.Need-nothing-requires Inv-loop μ-loop
 nothing-requires c κs = tt
 
 next-row-requires : tie.Need-next-row-requires Inv-loop μ-loop
-next-row-requires c κs = let h = c .before .before .before .before .before .before .before .before .before .before .before .before .before .before .before .before .before .before .before .before .pre in (h .1, record { raw = h .2 .known .raw; covers = h .2 .known .covers })
+next-row-requires c κs = let h = c .before .before .before .before .before .before .before .before .before .before .before .before .before .before .before .pre in (h .2, record { raw = h .3 .known .raw; covers = h .3 .known .covers })
 
 loop-holds : tie.Need-loop-holds Inv-loop μ-loop
-loop-holds c = let h = c .before .before .before .before .before .before .before .before .before .before .before .before .before .before .before .before .before .before .before .before .before .pre in filling-first _ _ _ _ _ _ _ _ refl (h .2) (c .before .nothing .ensures) (c .next-row .ensures)
+loop-holds c = let h = c .before .before .before .before .before .before .before .before .before .before .before .before .before .before .before .before .pre in filling-first _ _ _ _ _ _ _ _ (h .1) (h .3) (c .before .nothing .ensures) (c .next-row .ensures)
 
 shared-slice-read-span-of : tie.Need-shared-slice-read-span-of Inv-loop μ-loop
 shared-slice-read-span-of c = let w = filling-whole _ _ _ _ _ _ _ _ _ _ (c .before .before .loop .inv) (c .before .loop-test .taken) in omega (arith, w .long, w .inside)
 
 span-of-requires : tie.Need-span-of-requires Inv-loop μ-loop
-span-of-requires c κs = c .before .before .before .before .before .before .before .before .before .before .before .before .before .before .before .before .before .before .before .before .before .before .before .before .pre .1
+span-of-requires c κs = c .before .before .before .before .before .before .before .before .before .before .before .before .before .before .before .before .before .before .before .pre .2
 
 add-next : tie.Need-add-next Inv-loop μ-loop
 add-next c =
     let b3 = c .before .before .before in
-    let b25 = b3 .before .before .before .before .before .before .before .before .before .before .before .before .before .before .before .before .before .before .before .before .before .before in
-    let w = filling-span _ _ _ _ _ _ _ _ _ _ (b3 .loop .inv) (c .before .before .loop-test .taken) (c .span-of .ensures .0) in omega (arith, w .1, w .2, b25 .good)
+    let b20 = b3 .before .before .before .before .before .before .before .before .before .before .before .before .before .before .before .before .before in
+    let w = filling-span _ _ _ _ _ _ _ _ _ _ (b3 .loop .inv) (c .before .before .loop-test .taken) (c .span-of .ensures .0) in omega (arith, w .1, w .2, b20 .good)
 
 turn-requires : tie.Need-turn-requires Inv-loop μ-loop
 turn-requires c κs =
-    let b14 = c .before .before .before .before .before .before .before .before .before .before .before .before .before .before in
+    let b13 = c .before .before .before .before .before .before .before .before .before .before .before .before .before in
+    let b14 = b13 .before in
     let l = b14 .loop .inv in
-    let h = b14 .before .before .before .before .before .before .before .before .before .before .before .before .before .before .before .before .before .before .before .before .before .before .pre in
-    (h .0, filling-whole _ _ _ _ _ _ _ _ _ _ l (c .before .before .before .before .before .before .before .before .before .before .before .before .before .loop-test .taken), filling-rooms _ _ _ _ _ _ _ _ _ _ l (h .3))
+    let h = b14 .before .before .before .before .before .before .before .before .before .before .before .before .before .before .before .before .before .pre in
+    (h .0, filling-whole _ _ _ _ _ _ _ _ _ _ l (b13 .loop-test .taken), filling-rooms _ _ _ _ _ _ _ _ _ _ l (h .4), h .5)
 
 next-row-requires-2 : tie.Need-next-row-requires-2 Inv-loop μ-loop
 next-row-requires-2 c κs =
     let b34 = c .before .before .before .before .before .before .before .before .before .before .before .before .before .before .before .before .before .before .before .before .before .before .before .before .before .before .before .before .before .before .before .before .before .before in
     let b37 = b34 .before .before .before in
-    let h = b37 .before .before .before .before .before .before .before .before .before .before .before .before .before .before .before .before .before .before .before .before .before .before .pre in
-    (h .1, filling-covers _ _ _ _ _ _ _ _ _ _ (b37 .loop .inv) (b34 .before .before .loop-test .taken) (b34 .span-of .ensures .0))
+    let h = b37 .before .before .before .before .before .before .before .before .before .before .before .before .before .before .before .before .before .pre in
+    (h .2, filling-covers _ _ _ _ _ _ _ _ _ _ (b37 .loop .inv) (b34 .before .before .loop-test .taken) (b34 .span-of .ensures .0))
 
 loop-less : tie.Need-loop-less Inv-loop μ-loop
 loop-less c =
@@ -70,9 +71,9 @@ loop-again c =
     let b23 = c .before .before .before .before .before .before .before .before .before .before .before .before .before .before .before .before .before .before .before .before .before .before .before in
     let b35 = b23 .before .before .before .before .before .before .before .before .before .before .before .before in
     let b38 = b35 .before .before .before in
-    let k = b23 .turn .kept .1 .1 .1 .1 .1 .1 .1 .1 .1 .1 .1 .1 .1 .1 in
-    let h = b38 .before .before .before .before .before .before .before .before .before .before .before .before .before .before .before .before .before .before .before .before .before .before .pre in
-    filling-on _ _ _ _ _ _ _ _ _ _ (b38 .loop .inv) (b35 .before .before .loop-test .taken) (h .0) refl (b35 .span-of .ensures .0)
+    let k = b23 .turn .kept .1 .1 .1 .1 .1 in
+    let h = b38 .before .before .before .before .before .before .before .before .before .before .before .before .before .before .before .before .before .pre in
+    filling-on _ _ _ _ _ _ _ _ _ _ (b38 .loop .inv) (b35 .before .before .loop-test .taken) (h .0) (h .1) (b35 .span-of .ensures .0)
     (record {
       ids = k .0;
       starts = k .1 .0;

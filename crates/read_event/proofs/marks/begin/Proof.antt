@@ -21,15 +21,18 @@ opened-requires c κs =
 
 returns : tie.Need-returns
 returns c =
-    let a = c .before .before .before .before .before .before .before .before .before .before .before .before .before .before .before .before .before .before .before .before .before .before .before .before .args in
-    let e = c .before .before .before .before .before .before .before .before .before .before .before .before .before .before .before .before .before .before .is-first .ensures in
-    let m = c .before .before .before .before .before .before .before .before .before .mark-offsets .ensures in (
-      c .opened .ensures ∙ ap (λ (b : Bool). openAfter b (a .id) (a .o)) e,
-      c .before .before .before .before .before .before .before .before .before .before .before .before .before .before .before .before .mark .ensures ∙ ap (λ (b : Bool). marked b (a .o .frames) (a .id) (a .ids .now)) e,
-      m .0 ∙ ap (λ (b : Bool). offsetMarked (b && a .item) (a .o .frames) (a .next .items) (a .item-offsets .now)) e,
-      m .1 ∙ ap (λ (b : Bool). offsetMarked (b && a .stage) (a .o .frames) (a .next .fods) (a .fod-offsets .now)) e,
-      m .2 ∙ ap (λ (b : Bool). offsetMarked (b && a .stage) (a .o .frames) (a .next .whispys) (a .whispy-offsets .now)) e,
-      m .3 ∙ ap (λ (b : Bool). offsetMarked (b && a .stage) (a .o .frames) (a .next .stadiums) (a .stadium-offsets .now)) e,
+    let b9 = c .before .before .before .before .before .before .before .before .before in
+    let b18 = b9 .before .before .before .before .before .before .before .before .before in
+    let a = b18 .before .before .before .before .before .before .before .before .args in
+    let n = a .s .opened .frames in
+    let e = b18 .is-first .ensures in
+    let m = b9 .mark-offsets .ensures in (
+      c .opened .ensures ∙ ap (λ (b : Bool). openAfter b (a .id) (a .s .opened)) e,
+      b9 .before .before .before .before .before .before .before .mark .ensures ∙ ap (λ (b : Bool). marked b n (a .id) (a .ids .now)) e,
+      m .0 ∙ ap (λ (b : Bool). offsetMarked (b && a .k .item) n (a .s .next .items) (a .item-offsets .now)) e,
+      m .1 ∙ ap (λ (b : Bool). offsetMarked (b && a .k .stage) n (a .s .next .fods) (a .fod-offsets .now)) e,
+      m .2 ∙ ap (λ (b : Bool). offsetMarked (b && a .k .stage) n (a .s .next .whispys) (a .whispy-offsets .now)) e,
+      m .3 ∙ ap (λ (b : Bool). offsetMarked (b && a .k .stage) n (a .s .next .stadiums) (a .stadium-offsets .now)) e,
     )
 
 is-first-requires : tie.Need-is-first-requires

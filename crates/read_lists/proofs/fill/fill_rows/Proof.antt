@@ -1,57 +1,24 @@
 -- `read_lists::fill::fill_rows` meets its contract.
 -- Assumes nothing.
-use mathlib.Core.Path.{_∙_}
-use Rattle.read_event.proofs.Plans.{widths-cut}
+use mathlib.Core.Path.{refl, _∙_}
 use Rattle.read_event.specs.Inner.{planOf}
 use Rattle.read_event.specs.Parts.{rows}
-use Rattle.read_lists.proofs.Lists.{row-plan-is, row-spans-are, row-rooms-as, rows-run-as}
+use Rattle.read_event.specs.declared.known.Known.{Known}
+use Rattle.read_lists.proofs.Lists.{table-long, row-plan-is, row-spans-are, row-rooms-as, rows-run-as}
 use borrow.Author.Needs.{needs}
 use Rattle.read_lists.proofs.fill.fill_rows.Statement.{statement}
 use Rattle.read_lists.proofs.fill.fill_rows.Tie as tie
 use Rattle.read_lists.proofs.fill.fill_rows.Reads as reads
 use Rattle.read_lists.proofs.fill.fill_rows.Lts as lts
-use Rattle.read_lists.proofs.fill.listed.Reads as listed-reads
+use Rattle.read_lists.proofs.fill.put_all.Reads as put-all-reads
 use Rattle.read_rows.proofs.pass.pass.Reads as pass-reads
 use Rattle.layout.proofs.columns.Family.exists.Reads as exists-reads
 
-listed-requires : tie.Need-listed-requires
-listed-requires c κs = search needs
+slice-aggregate-put-all : tie.Need-slice-aggregate-put-all
+slice-aggregate-put-all c = search needs
 
-array-share-prefix-start-w : tie.Need-array-share-prefix-start-w
-array-share-prefix-start-w c = search needs
-
-slice-aggregate-pass : tie.Need-slice-aggregate-pass
-slice-aggregate-pass c = widths-cut _ _ _ _ _ (c .before .before .before .before .before .before .before .before .before .before .before .before .before .listed .ensures .0) .1
-
-array-share-prefix-end-w : tie.Need-array-share-prefix-end-w
-array-share-prefix-end-w c = search needs
-
-slice-aggregate-pass-2 : tie.Need-slice-aggregate-pass-2
-slice-aggregate-pass-2 c = widths-cut _ _ _ _ _ (c .before .before .before .before .before .before .before .before .before .before .before .before .before .before .listed .ensures .1) .1
-
-array-share-prefix-item-w : tie.Need-array-share-prefix-item-w
-array-share-prefix-item-w c = search needs
-
-slice-aggregate-pass-3 : tie.Need-slice-aggregate-pass-3
-slice-aggregate-pass-3 c = widths-cut _ _ _ _ _ (c .before .before .before .before .before .before .before .before .before .before .before .before .before .before .before .listed .ensures .2) .1
-
-array-share-prefix-fod-w : tie.Need-array-share-prefix-fod-w
-array-share-prefix-fod-w c = search needs
-
-slice-aggregate-pass-4 : tie.Need-slice-aggregate-pass-4
-slice-aggregate-pass-4 c = widths-cut _ _ _ _ _ (c .before .before .before .before .before .before .before .before .before .before .before .before .before .before .before .before .listed .ensures .3) .1
-
-array-share-prefix-whispy-w : tie.Need-array-share-prefix-whispy-w
-array-share-prefix-whispy-w c = search needs
-
-slice-aggregate-pass-5 : tie.Need-slice-aggregate-pass-5
-slice-aggregate-pass-5 c = widths-cut _ _ _ _ _ (c .before .before .before .before .before .before .before .before .before .before .before .before .before .before .before .before .before .listed .ensures .4) .1
-
-array-share-prefix-stadium-w : tie.Need-array-share-prefix-stadium-w
-array-share-prefix-stadium-w c = search needs
-
-slice-aggregate-pass-6 : tie.Need-slice-aggregate-pass-6
-slice-aggregate-pass-6 c = widths-cut _ _ _ _ _ (c .before .before .before .before .before .before .before .before .before .before .before .before .before .before .before .before .before .before .listed .ensures .5) .1
+put-all-requires : tie.Need-put-all-requires
+put-all-requires c κs = table-long 0
 
 exists-requires : tie.Need-exists-requires
 exists-requires c κs = search needs
@@ -62,16 +29,22 @@ exists-requires-2 c κs = search needs
 exists-requires-3 : tie.Need-exists-requires-3
 exists-requires-3 c κs = search needs
 
+slice-aggregate-pass : tie.Need-slice-aggregate-pass
+slice-aggregate-pass c = search needs
+
 pass-requires : tie.Need-pass-requires
 pass-requires c κs =
-    let b11 = c .before .before .before .before .before .before .before .before .before .before .before in
-    let b12 = b11 .before in
+    let b12 = c .before .before .before .before .before .before .before .before .before .before .before .before in
     let b13 = b12 .before in
-    let b32 = b13 .before .before .before .before .before .before .before .before .before .before .before .before .before .before .before .before .before .before .before in
-    let b46 = b32 .before .before .before .before .before .before .before .before .before .before .before .before .before .before in
-    let h = b46 .pre in
-    let e = row-plan-is (b46 .args .f) _ _ _ _ _ _ _ _ _ (b32 .listed .ensures) (b13 .exists .ensures) (b12 .exists2 .ensures) (b11 .exists3 .ensures) in
-    (row-spans-are (planOf (b46 .args .f)) _ _ (h .0) e, h .1, row-rooms-as _ _ _ e (h .2))
+    let b14 = b13 .before in
+    let b16 = b14 .before .before in
+    let b32 = b16 .before .before .before .before .before .before .before .before .before .before .before .before .before .before .before .before in
+    let a = b32 .args in
+    let h = b32 .pre in
+    let k : Known = record { course = record { spans = a .z; start = b14 .exists .result; counts = a .f .counts }; item = b13 .exists2 .result; stage = b12 .exists3 .result; borders = b16 .put-all .result } in
+    let t = b16 .put-all .ensures in
+    let e = row-plan-is (a .f) k _ t (b14 .exists .ensures) (b13 .exists2 .ensures) (b12 .exists3 .ensures) refl in
+    (row-spans-are (planOf (a .f)) _ _ (h .0) e, h .1, row-rooms-as _ _ _ e (h .2), t .parted)
 
 same-length : tie.Need-same-length
 same-length c = search needs
@@ -109,35 +82,25 @@ same-length-11 c = search needs
 returns : tie.Need-returns
 returns c =
     let b22 = c .before .before .before .before .before .before .before .before .before .before .before .before .before .before .before .before .before .before .before .before .before .before in
-    let b34 = b22 .before .before .before .before .before .before .before .before .before .before .before .before in
-    let b35 = b34 .before in
+    let b35 = b22 .before .before .before .before .before .before .before .before .before .before .before .before .before in
     let b36 = b35 .before in
-    let b55 = b36 .before .before .before .before .before .before .before .before .before .before .before .before .before .before .before .before .before .before .before in
-    let b69 = b55 .before .before .before .before .before .before .before .before .before .before .before .before .before .before in
-    let a = b69 .args in
-    let e = row-plan-is (b69 .args .f) _ _ _ _ _ _ _ _ _ (b55 .listed .ensures) (b36 .exists .ensures) (b35 .exists2 .ensures) (b34 .exists3 .ensures) in
+    let b37 = b36 .before in
+    let b39 = b37 .before .before in
+    let a = b39 .before .before .before .before .before .before .before .before .before .before .before .before .before .before .before .before .args in
+    let k : Known = record { course = record { spans = a .z; start = b37 .exists .result; counts = a .f .counts }; item = b36 .exists2 .result; stage = b35 .exists3 .result; borders = b39 .put-all .result } in
+    let e = row-plan-is (a .f) k _ (b39 .put-all .ensures) (b37 .exists .ensures) (b36 .exists2 .ensures) (b35 .exists3 .ensures) refl in
     λ es x. b22 .pass .ensures es x ∙ rows-run-as _ _ es (rows (a .ids .now) (a .starts .now) (a .ends .now) (a .items .now) (a .fods .now) (a .whispys .now) (a .stadiums .now) (a .item-offsets .now) (a .fod-offsets .now) (a .whispy-offsets .now) (a .stadium-offsets .now)) e
 
 pub fill-rows-spec : {M : Type 1} → statement M
 fill-rows-spec =
     tie.close
     (tie.spec
-    listed-requires
-    array-share-prefix-start-w
-    slice-aggregate-pass
-    array-share-prefix-end-w
-    slice-aggregate-pass-2
-    array-share-prefix-item-w
-    slice-aggregate-pass-3
-    array-share-prefix-fod-w
-    slice-aggregate-pass-4
-    array-share-prefix-whispy-w
-    slice-aggregate-pass-5
-    array-share-prefix-stadium-w
-    slice-aggregate-pass-6
+    slice-aggregate-put-all
+    put-all-requires
     exists-requires
     exists-requires-2
     exists-requires-3
+    slice-aggregate-pass
     pass-requires
     same-length
     same-length-2

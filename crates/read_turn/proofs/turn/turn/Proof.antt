@@ -27,17 +27,16 @@ begin-requires c κs = search needs
 add-put-rows : tie.Need-add-put-rows
 add-put-rows c =
     let b30 = c .before .before .before .before .before .before .before .before .before .before .before .before .before .before .before .before .before .before .before .before .before .before .before .before .before .before .before .before .before .before in
-    let b36 = b30 .before .before .before .before .before .before in
-    let h = b36 .pre .1 in omega (arith, h .long, h .inside, b36 .good)
+    let h = b30 .before .pre .1 in omega (arith, h .long, h .inside, b30 .before .good)
 
 put-rows-requires : tie.Need-put-rows-requires
 put-rows-requires c κs =
     let b30 = c .before .before .before .before .before .before .before .before .before .before .before .before .before .before .before .before .before .before .before .before .before .before .before .before .before .before .before .before .before .before in
-    let b42 = b30 .before .before .before .before .before .before .before .before .before .before .before .before in
-    let s = b42 .pre .0 in
-    let w = b42 .pre .1 in
-    let r = b42 .pre .2 in
-    (omega arith, (long-start _ _ _ w _ s, r .starts), (long-end _ _ _ w _ s, r .ends), (long-item _ _ _ w _ s, r .items), (long-fod _ _ _ w _ s, r .fods), (long-whispy _ _ _ w _ s, r .whispys), (long-stadium _ _ _ w _ s, r .stadiums))
+    let h = b30 .before .before .before .before .before .before .before .pre in
+    let s = h .0 in
+    let w = h .1 in
+    let r = h .2 in
+    (omega arith, h .3, (long-start _ _ _ w _ s, r .starts), (long-end _ _ _ w _ s, r .ends), (long-item _ _ _ w _ s, r .items), (long-fod _ _ _ w _ s, r .fods), (long-whispy _ _ _ w _ s, r .whispys), (long-stadium _ _ _ w _ s, r .stadiums))
 
 same-length : tie.Need-same-length
 same-length c = search needs
