@@ -33,7 +33,7 @@ PROGRAMS := $(basename $(notdir $(wildcard tests/c/programs/*.c tests/c/programs
 SHARED_OBJECTS := $(patsubst %.c,target/c/%.o,$(wildcard tests/c/shared/*.c tests/c/model/*.c))
 EXAMPLES := $(basename $(notdir $(wildcard examples/*.c)))
 # Programs that must fail over a library with a fault.
-FAULTED := cases refusals fuzz rows row_runs eights runs final live layout names map room apart read read_refusals newer check repair index stack
+FAULTED := cases refusals fuzz rows row_runs eights runs final live layout names map room apart read read_refusals newer check repair fault index stack
 TESTS := $(PROGRAMS:%=target/c/bin/%) target/c/bin/header_examples target/c/bin/foreign target/c/bin/stack target/c/bin/dying.so target/c/bin/live_runs target/c/bin/slp_points target/c/bin/four_players target/c/bin/listed $(EXAMPLES:%=target/c/examples/%) $(FAULTED:%=target/c/faults/%)
 
 .PHONY: all lib tests test test-rust python test-python test-documents man dist package test-package examples install uninstall clean help always
@@ -149,7 +149,7 @@ target/c/faults/stack: target/c/bench/stack.o target/c/tests/c/faults.o target/c
 target/c/faults/slp.o: $(SLP_LIB) Makefile
 	@mkdir -p $(@D)
 	$(LD) -r --whole-archive $< -o $@.tmp
-	$(OBJCOPY) $(foreach call,columns column refusal_words first_place walk step_at rollbacks measure read check measure_repair repair write write_final write_frames write_frame write_head write_end length_field write_map read_map frame_row post_row rows pre_of room write_index accepts_index find_frame,--redefine-sym slp_$(call)=real_slp_$(call)) $@.tmp $@
+	$(OBJCOPY) $(foreach call,columns column refusal_words first_place walk step_at rollbacks measure read check measure_repair repair fault fault_words write write_final write_frames write_frame write_head write_end length_field write_map read_map frame_row post_row rows pre_of room write_index accepts_index find_frame,--redefine-sym slp_$(call)=real_slp_$(call)) $@.tmp $@
 	@rm -f $@.tmp
 
 target/c/faults/%: target/c/tests/c/programs/%.o $(SHARED_OBJECTS) target/c/tests/c/faults.o target/c/faults/slp.o

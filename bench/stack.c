@@ -23,7 +23,7 @@ static slp_game game;
 static slp_stores stores;
 static slp_bytes block, codes, metadata;
 static uint8_t out[1 << 20], file[1 << 20], mask[FRAMES], scratch[FRAMES], zeros[65536];
-static size_t file_len;
+static size_t file_len, cut_len;   /* cut_len: without the last byte of its events */
 static uint32_t cells[MOST_CELLS], ids[FRAMES], offsets[FRAMES + 1], rows[FRAMES * (SLP_POST_COLUMNS + 1)];
 
 /* What slp_read fills, for either game. */
@@ -109,6 +109,8 @@ static void call_room(void) { kept = slp_room(slp_plan_of(&game, block.len, code
 static void call_check(void) { kept = 1 + slp_check(file, file_len).offset; }
 static void call_measure_repair(void) { kept = 1 + slp_measure_repair(file, file_len).bytes; }
 static void call_repair(void) { kept = 1 + slp_repair(file, file_len, out, sizeof out).bytes; }
+static void call_fault(void) { kept = 1 + slp_fault(file, cut_len).offset; }
+static void call_fault_words(void) { kept = (unsigned char)slp_fault_words(SLP_FAULT_STRANGE).text[0]; }
 static void call_measure(void) { kept = slp_measure(file, file_len).places.block_at; }
 static void call_read(void) { kept = slp_read_game(file, file_len, &space).places.block_at; }
 static void call_first_place(void) { kept = slp_first_place(file, file_len); }
@@ -150,6 +152,7 @@ static const struct {
 	{ "slp_check", call_check, 2900 },
 	{ "slp_measure_repair", call_measure_repair, 3200 },
 	{ "slp_repair", call_repair, 3300 },
+	{ "slp_fault", call_fault, 7500 },
 	{ "slp_measure", call_measure, 4600 },
 	{ "slp_read", call_read, 10300 },
 	{ "slp_write_index", call_write_index, 2800 },
@@ -171,6 +174,7 @@ static const struct {
 	{ "slp_columns", call_columns, 800 },
 	{ "slp_column", call_column, 1900 },
 	{ "slp_refusal_words", call_refusal_words, 2100 },
+	{ "slp_fault_words", call_fault_words, 1400 },
 	{ "slp_first_place", call_first_place, 256 },
 	{ "slp_room", call_room, 1500 },
 };
@@ -202,6 +206,7 @@ static size_t measured(size_t i, void (*make)(void))
 		exit(2);
 	}
 	file_len = w.len;
+	cut_len = slp_walk(file, file_len).place - 1;
 	slp_lengths lengths = slp_measure(file, file_len).lengths;
 	if (slp_space_cells(&lengths) > sizeof space_cells / 4 || slp_space_bytes(&lengths) > sizeof space_bytes) {
 		fputs("stack: too little room for a game of its own\n", stderr);

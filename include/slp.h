@@ -242,6 +242,53 @@ slp_repaired slp_measure_repair(const uint8_t *file, size_t file_len);
  */
 slp_repaired slp_repair(const uint8_t *file, size_t file_len, uint8_t *out, size_t out_len);
 
+/* ======== fault ========
+ *
+ * Why slp_measure gives 19 (SLP_BAD_EVENTS): the first event that may not come where the events before it stand, or the end of the events, and a reason.
+ * Of a newer recorder's file (above 3.18.0) reason, event and offset are 0. */
+
+enum {
+	SLP_FAULT_ORDER = 1,      /* out of order: nothing of its kind may stand there */
+	SLP_FAULT_SIZE = 2,       /* of another size than its version's */
+	SLP_FAULT_ID = 3,         /* another frame's id */
+	SLP_FAULT_PORTS = 4,      /* ports do not ascend */
+	SLP_FAULT_PRE = 5,        /* a Pre without its Post: its frame ends, and a Post is to come */
+	SLP_FAULT_TWICE = 6,      /* a player twice in one frame */
+	SLP_FAULT_PORT = 7,       /* a port above 3 */
+	SLP_FAULT_FOLLOWER = 8,   /* a follower flag above 1 */
+	SLP_FAULT_SEAT = 9,       /* a seat type above 3, in the start block */
+	SLP_FAULT_INITIATOR = 10, /* an initiator outside -1 .. 3 */
+	SLP_FAULT_BLOCK = 11,     /* a wrong block of codes */
+	SLP_FAULT_THIRD = 12,     /* a third end */
+	SLP_FAULT_UNLIKE = 13,    /* a second end unlike the first */
+	SLP_FAULT_CUT = 14,       /* no event is wrong, and the replay is not finished */
+	SLP_FAULT_LENGTH = 15,    /* the events are a replay's, and the event data is not whole: its length was never filled in, or says more bytes than there are */
+	SLP_FAULT_START = 16,     /* the first event is no GameStart of at least 4 bytes */
+	SLP_FAULT_SHORT = 17,     /* the start block is shorter than its version's */
+	SLP_FAULT_VERSION = 18,   /* the version has no such event */
+	SLP_FAULT_LISTED = 19,    /* codes are not there as the payload table lists them */
+	SLP_FAULT_SAME = 20,      /* before 2.2, a frame with the id of the one before it */
+	SLP_FAULT_POST = 21,      /* a Post without its Pre */
+	SLP_FAULT_STRANGE = 22    /* an event that no replay has */
+};
+
+typedef struct {
+	uint8_t refused; /* what slp_measure gives; where it is not 19, all else is 0 */
+	uint8_t reason;  /* SLP_FAULT_.., or 0 */
+	size_t event;    /* how many events stand before the fault: GameStart is event 0 */
+	size_t offset;   /* the byte of the faulty event; of 14 and 15, the byte where the events end */
+} slp_faulted;
+
+/* Of any file. Nothing but the file is lent, which is only read.
+ *
+ *     slp_faulted why = slp_fault(file, len);
+ *     if (why.reason) printf("event %zu, byte %zu: %s\n", why.event, why.offset, slp_fault_words(why.reason).text);
+ */
+slp_faulted slp_fault(const uint8_t *file, size_t file_len);
+
+/* A reason in words. Every number is taken, those of no reason too. */
+slp_words slp_fault_words(uint8_t reason);
+
 /* ======== the index of a replay ========
  *
  * A file beside the replay, to jump to a frame without a walk: `SPX`, version 1 in two bytes, how many frames there are in four, and for each frame,

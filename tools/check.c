@@ -47,6 +47,8 @@ static void print_json(const char *path, const content *c, slp_checked is)
 	json_mark(&j, "sound", !is.refused);
 	if (is.refused)
 		json_refused_for(&j, is.refused, is.offset, wrong_words(c, is.refused, &room));
+	if (is.refused == SLP_BAD_EVENTS)
+		json_fault(&j, c->bytes, c->len);
 	json_line(&j);
 }
 
@@ -62,6 +64,8 @@ static outcome check_file(const request *q, const char *path)
 	else
 		print_answer(q->several ? path : NULL, &c, is);
 	complain_length(input_name(path), &c, is.refused, is.offset);
+	if (is.refused == SLP_BAD_EVENTS)
+		complain_fault(input_name(path), c.bytes, c.len);
 	free(c.bytes);
 	return is.refused ? IS_UNSOUND : IS_SOUND;
 }

@@ -216,6 +216,8 @@ static void print_json(const char *path, const replay *r, const game *g, outcome
 		json_refused(&j, r->opened.refused, r->opened.offset);
 	else
 		json_mark(&j, "whole", how == IS_WHOLE);
+	if (how != IS_WHOLE)
+		json_fault(&j, r->file.bytes, r->file.len);
 	if (g)
 		json_game(&j, g);
 	json_line(&j);

@@ -104,6 +104,19 @@ void json_refused(json *j, unsigned number, size_t offset)
 	json_refused_for(j, number, offset, REFUSAL_WORDS(number));
 }
 
+void json_fault(json *j, const uint8_t *file, size_t len)
+{
+	slp_faulted why = slp_fault(file, len);
+	if (!why.reason)
+		return;
+	json_begin(j, "fault", '{');
+	json_number(j, "reason", why.reason);
+	json_count(j, "event", why.event);
+	json_count(j, "offset", why.offset);
+	json_words(j, "words", slp_fault_words(why.reason).text);
+	json_end(j, '}');
+}
+
 void json_line(json *j)
 {
 	json_end(j, '}');

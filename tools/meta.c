@@ -150,6 +150,7 @@ static outcome print_metadata(const request *q, const char *path, const content 
 		return IS_REFUSED;
 	}
 	complain_cut(name, c->bytes, c->len);
+	complain_fault(name, c->bytes, c->len);
 	return IS_CUT;
 }
 

@@ -18,6 +18,8 @@ void complain_unread(const char *name, const content *c, unsigned number, size_t
 	complain(name, "refused %u: %s", number, REFUSAL_WORDS(number));
 	if (!w.whole)
 		complain_cut(name, c->bytes, c->len);
+	if (number == SLP_BAD_EVENTS)
+		complain_fault(name, c->bytes, c->len);
 }
 
 /* Memory for all columns. */
@@ -114,6 +116,7 @@ void complain_part(const char *name, const replay *r, outcome how)
 		return;
 	complain_unfilled(name, r->file.bytes, r->file.len);
 	complain_cut(name, r->file.bytes, r->file.len);
+	complain_fault(name, r->file.bytes, r->file.len);
 }
 
 unsigned find_replaced(const replay *r, uint8_t **mask)

@@ -27,6 +27,15 @@ static void say_dropped(FILE *to, const slp_repaired *r)
 		fprintf(to, "  bytes behind that were dropped: %zu, whole events in them: %zu\n", r->dropped_bytes, r->dropped_events);
 }
 
+/* Why no more is kept. Where no event is wrong up to where the length field says that they end, that is not why: repair went on. */
+static void say_why(FILE *to, const content *was, const slp_repaired *r)
+{
+	slp_faulted why = slp_fault(was->bytes, was->len);
+	int went_on = why.reason == SLP_FAULT_CUT && slp_walk(was->bytes, was->len).whole;
+	if (r->dropped_bytes && why.reason && why.reason != SLP_FAULT_LENGTH && !went_on)
+		fprintf(to, "  %s\n", say_fault(why).text);
+}
+
 static void say_tail(FILE *to, const slp_repaired *r)
 {
 	static const char *const words[] = {
@@ -49,6 +58,7 @@ static void report(const char *in, const char *out, const content *was, const ui
 	fprintf(to, ", events: %zu\n", r->events);
 	say_length(to, r);
 	say_dropped(to, r);
+	say_why(to, was, r);
 	say_tail(to, r);
 }
 
@@ -66,6 +76,8 @@ static int write_kept(const request *q, const content *file)
 	int status = save_written(q, (slp_written){ r.refused, r.bytes }, kept);
 	if (status == WELL)
 		report(in, out, file, kept, &r);
+	else if (r.refused == SLP_BAD_EVENTS)
+		complain_fault(input_name(in), file->bytes, file->len);
 	free(kept);
 	return status;
 }

@@ -104,6 +104,8 @@ json json_file(const char *path);
 void json_refused(json *j, unsigned number, size_t offset);
 /* The same in other words. */
 void json_refused_for(json *j, unsigned number, size_t offset, const char *words);
+/* What slp_fault tells of a file, if it tells of a fault. */
+void json_fault(json *j, const uint8_t *file, size_t len);
 void json_line(json *j);
 
 /* ---- words.c: messages; names in them are shown by put_name */
@@ -127,6 +129,13 @@ outcome unread(const request *q, const char *path, int wrong);
 void complain_refused(const char *name, unsigned number, size_t offset);
 /* A replay that is cut, and how many of its event data's bytes there are. */
 void complain_cut(const char *name, const uint8_t *file, size_t len);
+/* Where slp_fault tells of a fault: which event, at which byte, why; and how many events slp repair keeps. Bytes that were not loaded, behind the event
+ * data, may have more. */
+typedef struct {
+	char text[256];
+} fault_text;
+fault_text say_fault(slp_faulted why);
+void complain_fault(const char *name, const uint8_t *file, size_t len);
 /* The declared length of event data. */
 size_t declared_length(const uint8_t *file);
 void declare_length(uint8_t *file, size_t len);
@@ -193,7 +202,7 @@ void complain_partly(const char *name, const replay *r);
 /* The mask of the frames that a later one of the same id replaced, to be freed. NULL where there is no memory, and where the number that is given
  * refuses it: ids that no game has are out of slp_rollbacks's range. */
 unsigned find_replaced(const replay *r, uint8_t **mask);
-/* Why a replay is refused: 14 to 17 have a place. Of one that is cut, how much of it there is. It was loaded with LONGEST_TAIL + 1 bytes more. */
+/* Why a replay is refused: 14 to 17 have a place, and so has what 19 is for. Of one that is cut, how much of it there is. It was loaded with LONGEST_TAIL + 1 bytes more. */
 void complain_unread(const char *name, const content *c, unsigned number, size_t offset);
 
 /* ---- index.c */

@@ -47,6 +47,7 @@ static outcome walk_file(const request *q, const char *path)
 		complain_length(input_name(path), &c, w.refused, w.offset);
 	} else if (!w.whole) {
 		complain_cut(input_name(path), c.bytes, c.len);
+		complain_fault(input_name(path), c.bytes, c.len);
 	}
 	free(c.bytes);
 	return w.refused ? IS_REFUSED : w.whole ? IS_WHOLE : IS_CUT;

@@ -109,3 +109,31 @@ void complain_cut(const char *name, const uint8_t *file, size_t len)
 	else
 		complain(name, "cut: %zu of %zu bytes of event data are there", len - 15, declared_length(file));
 }
+
+fault_text say_fault(slp_faulted why)
+{
+	fault_text t;
+	int at_end = why.reason == SLP_FAULT_CUT || why.reason == SLP_FAULT_LENGTH;
+	slp_words reason = slp_fault_words(why.reason);
+	if (at_end)
+		snprintf(t.text, sizeof t.text, "behind %zu event%s, at byte %zu: %s", why.event, why.event == 1 ? "" : "s", why.offset, reason.text);
+	else
+		snprintf(t.text, sizeof t.text, "event %zu, at byte %zu: %s", why.event, why.offset, reason.text);
+	return t;
+}
+
+/* What repair keeps ends before a wrong event. Where none is wrong, and all declared bytes are there, more events may stand behind these. */
+void complain_fault(const char *name, const uint8_t *file, size_t len)
+{
+	slp_faulted why = slp_fault(file, len);
+	if (!why.reason)
+		return;
+	fault_text fault = say_fault(why);
+	slp_repaired kept = slp_measure_repair(file, len);
+	if (kept.refused)
+		complain(name, "%s; 'slp repair' finds no beginning that can be read", fault.text);
+	else if (why.reason == SLP_FAULT_CUT && slp_walk(file, len).whole)
+		complain(name, "%s; 'slp repair' keeps what can be read", fault.text);
+	else
+		complain(name, "%s; 'slp repair' keeps %zu event%s", fault.text, kept.events, kept.events == 1 ? "" : "s");
+}

@@ -114,8 +114,8 @@ GAME = [
         ("writes", "layout", ["the one table"]),
         ("given", "columns", ["how many"]),
     ]),
-    (["slp_column", "slp_refusal_words"], [
-        ("lent", "a number", ["of a family and column;", "of a refusal"]),
+    (["slp_column", "slp_refusal_words", "slp_fault_words"], [
+        ("lent", "a number", ["of a family and column;", "of a refusal, of a fault"]),
         ("writes", "names", ["beside layout's table"]),
         ("given", "a struct", ["with the text in it"]),
     ]),
@@ -164,6 +164,13 @@ FILE = [
         ("reads", "repair_scan", ["the last place where", "a replay may end"]),
         ("reads", "repair_call", ["12; the length, the tail"]),
         ("given", "a file", ["that slp_read accepts"]),
+    ]),
+    (["slp_fault"], [
+        ("lent", "a file", ["that is refused with 19"]),
+        ("reads", "measure", ["0, or the refusal"]),
+        ("reads", "fault_scan", ["the first event that", "may not come"]),
+        ("reads", "fault_reason", ["why it may not"]),
+        ("given", "a fault", ["event, byte, reason"]),
     ]),
     (["slp_write_index", "slp_accepts_index"], [
         ("lent", "a file", ["an output; an index"]),

@@ -86,6 +86,26 @@ def repair(file: File) -> bytes:
     return out.tobytes()
 
 
+class Fault(NamedTuple):
+    """Why a file is refused with 19: how many events stand before the fault (GameStart is event 0), its byte, and why, as a number and in words."""
+
+    event: int
+    offset: int
+    reason: int
+    words: str
+
+
+def fault(file: File) -> Fault | None:
+    """Why `read` refuses a file with 19: of a file that is named, or of bytes. None where it does not, and for a newer recorder's file.
+
+    >>> slp.fault("demo.slp")
+    >>> slp.fault(Path("demo.slp").read_bytes()[:5000])
+    Fault(event=77, offset=4952, reason=14, words='the replay is not finished')
+    """
+    f = call("slp_fault", content(file))
+    return Fault(f.event, f.offset, f.reason, call("slp_fault_words", f.reason).text.decode()) if f.reason else None
+
+
 class Player:
     """A player's columns: `pre` and `post` have a row for each frame, and `present` says whether the player is in it."""
 

@@ -37,6 +37,8 @@ slp_pre real_slp_pre_of(const uint32_t *cells, size_t cells_len, slp_version ver
 slp_checked real_slp_check(const uint8_t *file, size_t file_len);
 slp_repaired real_slp_measure_repair(const uint8_t *file, size_t file_len);
 slp_repaired real_slp_repair(const uint8_t *file, size_t file_len, uint8_t *out, size_t out_len);
+slp_faulted real_slp_fault(const uint8_t *file, size_t file_len);
+slp_words real_slp_fault_words(uint8_t reason);
 slp_measured real_slp_measure(const uint8_t *file, size_t file_len);
 slp_opened real_slp_read(const uint8_t *file, size_t file_len, SLP_SPACE_PARAMETERS);
 
@@ -259,6 +261,44 @@ slp_repaired slp_repair(const uint8_t *file, size_t file_len, uint8_t *out, size
 	if (faulty("repair-outside") && out_len)
 		spoil(out + out_len);
 	return r;
+}
+
+slp_faulted slp_fault(const uint8_t *file, size_t file_len)
+{
+	slp_faulted f = real_slp_fault(file, file_len);
+	if (faulty("fault-refused") && f.refused == 16)
+		f.refused = 17;
+	if (faulty("fault-reason") && f.reason == SLP_FAULT_POST)
+		f.reason = SLP_FAULT_ORDER;
+	if (faulty("fault-same") && f.reason == SLP_FAULT_SAME)
+		f.reason = SLP_FAULT_ID;
+	if (faulty("fault-length") && f.reason == SLP_FAULT_LENGTH)
+		f.reason = SLP_FAULT_CUT;
+	if (faulty("fault-event"))
+		f.event -= f.event > 5;
+	if (faulty("fault-offset"))
+		f.offset += f.reason == SLP_FAULT_CUT && f.offset < file_len;
+	if (faulty("fault-early") && f.reason == SLP_FAULT_UNLIKE)
+		f = (slp_faulted){ f.refused, SLP_FAULT_UNLIKE, f.event - 1, real_slp_first_place(file, file_len) };
+	if (faulty("fault-other") && f.refused == 17)
+		f.offset = 1;
+	if (faulty("fault-newer") && f.refused == 19 && f.reason == 0)
+		f.reason = SLP_FAULT_ORDER;
+	if (faulty("fault-input") && file_len > 20)
+		spoil(file + 20);
+	if (faulty("fault-outside") && file_len)
+		spoil(file + file_len);
+	return f;
+}
+
+slp_words slp_fault_words(uint8_t reason)
+{
+	slp_words w = real_slp_fault_words(reason);
+	if (faulty("fault-words") && reason == SLP_FAULT_STRANGE)
+		w = real_slp_fault_words(SLP_FAULT_STRANGE + 1);
+	if (faulty("fault-words-end") && reason == SLP_FAULT_LENGTH)
+		w.text[sizeof w.text - 1] = 'x';
+	return w;
 }
 
 uint8_t slp_rollbacks(const uint32_t *ids, size_t ids_len, uint8_t keep, uint8_t *mask, size_t mask_len, uint8_t *scratch, size_t scratch_len)

@@ -42,6 +42,14 @@ static void repair_through(const uint8_t *file, size_t len)
 	free(mended);
 }
 
+/* ---- fault */
+
+static void fault_through(const uint8_t *file, size_t len)
+{
+	slp_faulted why = slp_fault(file, len);
+	if (why.reason) printf("event %zu, byte %zu: %s\n", why.event, why.offset, slp_fault_words(why.reason).text);
+}
+
 /* ---- masks */
 
 static void mask_frames(void)
@@ -70,7 +78,10 @@ static void write_and_read(void)
 	check_through(out, 350);
 	check_through(out, 28);
 	repair_through(out, 28);
+	fault_through(out, w.len);
+	fault_through(out, 349);
 	memset(out + 11, 0, 4);
+	fault_through(out, 350);
 	repair_through(out, w.len);
 }
 

@@ -347,6 +347,28 @@ run repair directory never-mended.slp
 run repair --final game.slp never-mended.slp
 [ -e never-mended.slp ] || echo 'never-mended.slp: not there'
 
+# ---- why a replay is refused with 19: the ports of the first frame swapped, a seat type of 4, a wrong id in a Post, an initiator of 9, two ends that differ
+patched swapped.slp 826 '\001'
+for at in 893 1045; do printf '\000' | dd of=swapped.slp bs=1 seek=$at conv=notrunc 2>/dev/null; done
+printf '\001' | dd of=swapped.slp bs=1 seek=960 conv=notrunc 2>/dev/null
+patched seat.slp 149 '\004'
+patched post.slp 959 '\000'
+patched initiator.slp $((end - 5)) '\011'
+for f in swapped seat post initiator; do
+	for verb in table resave repair; do
+		[ $verb = table ] && run table $f.slp || run $verb $f.slp from-$f-$verb.slp
+	done
+	run info $f.slp
+	run check $f.slp
+done
+run check startless-cut.slp
+# the length says that the events end within a frame: what stands behind that is repair's to find
+cp game.slp midway.slp
+declare_length midway.slp 4937
+run resave midway.slp never.slp
+run repair midway.slp mended-midway.slp
+cmp game.slp mended-midway.slp && echo 'mended-midway.slp: the same'
+
 # ---- room
 guarded room --slots=2 --frames=28800 --items=20000
 run room
@@ -562,6 +584,8 @@ read_back() {
 }
 read_back info --json game.slp cut.slp unknown.slp missing.slp far.slp
 read_back info --json recorder.slp | cut -c1-80
+read_back info --json post.slp seat.slp
+read_back check --json post.slp
 read_back info --json odd-name.slp broken-name.slp names-info.slp metadata-name.slp teams.slp quit.slp other-end.slp | cut -c1-330
 read_back walk --json game.slp cut.slp unknown.slp missing.slp
 read_back check --json game.slp cut.slp unknown.slp signature.slp newer.slp longer.slp missing.slp

@@ -77,6 +77,26 @@ class Refusals(unittest.TestCase):
             slp.read(12)
 
 
+class Faults(unittest.TestCase):
+    def fault(self, at: int, byte: int) -> slp.Fault | None:
+        return slp.fault(DEMO[:at] + bytes([byte]) + DEMO[at + 1 :])
+
+    def test_none(self):
+        self.assertIsNone(slp.fault(DEMO))
+        self.assertIsNone(slp.fault(b"no replay"))
+        # above 3.18.0 nothing is told
+        self.assertIsNone(self.fault(49, 19))
+
+    def test_place_and_reason(self):
+        self.assertEqual(self.fault(149, 4), (0, 47, 9, "a seat type above 3"))
+        self.assertEqual(self.fault(959, 0), (4, 955, 3, "an event with another frame's id"))
+        self.assertEqual(self.fault(518410, 9), (9537, 518408, 10, "an initiator who is no player"))
+
+    def test_the_end_of_the_events(self):
+        self.assertEqual(slp.fault(with_length(0)[:518415])[:3], (9538, 518415, 15))
+        self.assertEqual(slp.fault(DEMO[:5000])[:3], (77, 4952, 14))
+
+
 class Columns(unittest.TestCase):
     def test_no_copy(self):
         game = slp.read(DEMO)

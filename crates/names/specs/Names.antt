@@ -1,4 +1,4 @@
--- What columns are called and what their cells are, and the words of refusals.
+-- What columns are called and what their cells are, and the words of refusals and faults.
 -- Assumes nothing.
 use Prim.Native.Nat.{ℕ}
 use Prim.Native.String.{String}
@@ -172,3 +172,37 @@ wordsOf number = getD refusalWords number "for a reason that is not known here"
 
 abbrev pub worded : ℕ → Words
 worded number = record { text = filled 128 (bytes (wordsOf number)) }
+
+-- why a file is refused with 19, by the reason's number
+unfoldable pub faultWords : List String
+faultWords =
+    "no fault" ∷
+    "an event out of order" ∷
+    "an event of another size than its version's" ∷
+    "an event with another frame's id" ∷
+    "a frame's ports do not ascend" ∷
+    "a player's Pre without its Post" ∷
+    "a player twice in one frame" ∷
+    "a port above 3" ∷
+    "a follower flag above 1" ∷
+    "a seat type above 3" ∷
+    "an initiator who is no player" ∷
+    "a wrong block of cheat codes" ∷
+    "a third end" ∷
+    "a second end unlike the first" ∷
+    "the replay is not finished" ∷
+    "the length field was never filled in, or says more bytes than there are" ∷
+    "the first event is no GameStart of at least 4 bytes" ∷
+    "the start block is too short for its version" ∷
+    "an event that its version does not have" ∷
+    "cheat codes are not as the table of payload sizes lists them" ∷
+    "a frame with the id of the one before it" ∷
+    "a player's Post without its Pre" ∷
+    "an event that no replay has" ∷
+    []
+
+abbrev pub faultWordsOf : ℕ → String
+faultWordsOf number = getD faultWords number "for a reason that is not known here"
+
+abbrev pub faultWorded : ℕ → Words
+faultWorded number = record { text = filled 128 (bytes (faultWordsOf number)) }

@@ -1,4 +1,5 @@
-// What columns and refusals are called.
+// What columns, refusals and faults are called.
 pub mod columns;
+pub mod faults;
 pub mod lines;
 pub mod refusals;

@@ -1,10 +1,11 @@
-// What columns and refusals are called.
+// What columns, refusals and faults are called.
 ghost use mathlib.Core.Path.{_≡_};
-ghost use Rattle.names.specs.Names.{worded};
+ghost use Rattle.names.specs.Names.{worded, faultWorded};
 ghost use Rattle.slp.specs.Columns.{storeColumn};
 use names::columns::Described;
 use names::columns::column;
 use names::columns::no_column;
+use names::faults::fault_words;
 use names::refusals::Words;
 use names::refusals::refusal_words;
 use rows_run::family::family_of;
@@ -26,4 +27,12 @@ pub extern "C" fn slp_refusal_words(number: u8) -> Words
     ensures { λ r. ⌜ r ≡ worded number ⌝ }
 {
     refusal_words(number)
+}
+
+// Why a file is refused with 19.
+#[no_mangle]
+pub extern "C" fn slp_fault_words(reason: u8) -> Words
+    ensures { λ r. ⌜ r ≡ faultWorded reason ⌝ }
+{
+    fault_words(reason)
 }

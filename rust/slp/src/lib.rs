@@ -46,6 +46,7 @@ pub mod rows;
 mod write;
 
 mod check;
+mod fault;
 mod index;
 mod live;
 mod read;
@@ -56,6 +57,7 @@ mod views;
 pub use append::{write_frame, write_frames};
 pub use check::check;
 pub use columns::{Described, Family, Kind};
+pub use fault::{fault, fault_words, Fault};
 pub use final_frames::write_final;
 pub use game::*;
 pub use index::{accepts_index, find_frame, index, index_len, write_index, Moment};

@@ -71,6 +71,16 @@ pub struct Repaired {
 const _: () = assert!(std::mem::size_of::<Repaired>() == 56);
 
 #[repr(C)]
+pub struct Faulted {
+	pub refused: u8,
+	pub reason: u8,
+	pub event: usize,
+	pub offset: usize,
+}
+
+const _: () = assert!(std::mem::size_of::<Faulted>() == 24);
+
+#[repr(C)]
 pub struct Written {
 	pub refused: u8,
 	pub len: usize,
@@ -193,6 +203,10 @@ extern "C" {
 	pub fn slp_measure_repair(file: *const u8, file_len: usize) -> Repaired;
 
 	pub fn slp_repair(file: *const u8, file_len: usize, out: *mut u8, out_len: usize) -> Repaired;
+
+	pub fn slp_fault(file: *const u8, file_len: usize) -> Faulted;
+
+	pub fn slp_fault_words(reason: u8) -> Words;
 
 	pub fn slp_measure(file: *const u8, file_len: usize) -> Measured;
 

@@ -10,6 +10,8 @@ _Static_assert(sizeof(slp_step) == 48 && offsetof(slp_step, offset) == 8 && offs
 _Static_assert(sizeof(slp_walked) == 40 && offsetof(slp_walked, offset) == 8 && offsetof(slp_walked, place) == 32, "slp_walked");
 _Static_assert(sizeof(slp_repaired) == 56 && offsetof(slp_repaired, tail) == 1 && offsetof(slp_repaired, said) == 4 && offsetof(slp_repaired, length) == 8 &&
                offsetof(slp_repaired, bytes) == 16 && offsetof(slp_repaired, event_bytes) == 32 && offsetof(slp_repaired, dropped_bytes) == 48, "slp_repaired");
+_Static_assert(sizeof(slp_faulted) == 24 && offsetof(slp_faulted, reason) == 1 && offsetof(slp_faulted, event) == 8 && offsetof(slp_faulted, offset) == 16, "slp_faulted");
+_Static_assert(SLP_FAULT_ORDER == 1 && SLP_FAULT_SEAT == 9 && SLP_FAULT_UNLIKE == 13 && SLP_FAULT_LENGTH == 15 && SLP_FAULT_LISTED == 19 && SLP_FAULT_STRANGE == 22, "faults");
 _Static_assert(sizeof(slp_index_written) == 24 && offsetof(slp_index_written, offset) == 8 && offsetof(slp_index_written, len) == 16, "slp_index_written");
 _Static_assert(sizeof(slp_index_accepted) == 16 && offsetof(slp_index_accepted, offset) == 8, "slp_index_accepted");
 _Static_assert(sizeof(slp_moment) == 24 && offsetof(slp_moment, row) == 8 && offsetof(slp_moment, offset) == 16 && offsetof(slp_moment, id) == 20, "slp_moment");
