@@ -1,4 +1,6 @@
 // The answers as structs of numbers: an enum does not cross to C. A field that an answer lacks is 0.
+#![tactic(auto)]
+
 ghost use Rattle.std.specs.Prelude.{◌≡◌, cond};
 ghost use Rattle.answers.specs.Answers.{stepped, walked, written, appended_as, closed_as};
 
@@ -12,7 +14,7 @@ pub mod mask;
 
 // What stands at a place: kind 0 is an event, 1 the end of the data, 2 a cut, 3 a refusal.
 #[repr(C)]
-#[derive(Drop)]
+#[derive(Clone, Copy)]
 pub struct SlpStep {
     pub kind: u8,
     pub refused: u8,
@@ -25,7 +27,7 @@ pub struct SlpStep {
 }
 
 #[repr(C)]
-#[derive(Drop)]
+#[derive(Clone, Copy)]
 pub struct SlpWalked {
     pub refused: u8,
     pub whole: u8,
@@ -36,21 +38,21 @@ pub struct SlpWalked {
 }
 
 #[repr(C)]
-#[derive(Drop)]
+#[derive(Clone, Copy)]
 pub struct SlpWritten {
     pub refused: u8,
     pub len: usize,
 }
 
 #[repr(C)]
-#[derive(Drop)]
+#[derive(Clone, Copy)]
 pub struct SlpAppended {
     pub refused: u8,
     pub end: usize,
 }
 
 #[repr(C)]
-#[derive(Drop)]
+#[derive(Clone, Copy)]
 pub struct SlpClosed {
     pub refused: u8,
     pub events: usize,

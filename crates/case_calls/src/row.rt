@@ -13,7 +13,7 @@ use rollback::frame::Masked;
 use ser::written::Written;
 
 // The first `len` of the numbers.
-#[derive(Drop)]
+#[derive(Clone, Copy)]
 pub struct Row {
     pub len: usize,
     pub numbers: [usize; 8],

@@ -1,11 +1,13 @@
 // Reads a replay on standard input and walks it twice, through the reader as a value and by the walk: whole and cut after every byte, as it
 // is, damaged, and with a length that was never filled in. Prints what the value found in all of it, and at how many cuts the two agree.
+#![tactic(auto)]
+
 use de::Walked;
 use head::Step;
 use libc::{STDIN_FILENO, STDOUT_FILENO};
 
 // What a walk found. The state is 1 at the data's end, 2 at a cut, and the number of a refusal, which has an offset and nothing else.
-#[derive(Drop)]
+#[derive(Clone, Copy)]
 struct Found {
     state: u8,
     offset: usize,

@@ -1,4 +1,6 @@
 // Runs the twelve cases through the public calls, and prints a line of each: its number, and the numbers of its rows in the table.
+#![tactic(auto)]
+
 use case_calls::row::Row;
 use case_calls::run::{
     blocks_7, blocks_8, case_1, case_7, case_8, case_9, case_12, codes_9, cut, masked, patch_level,

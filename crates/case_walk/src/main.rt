@@ -1,5 +1,7 @@
 // Reads the smallest replay and 70,000 zeros behind it on standard input, and prints the line of it whole, cut, damaged, with a length that
 // was never filled in, and followed by more bytes than an input may have.
+#![tactic(auto)]
+
 ghost use Rattle.std.specs.Prelude.{◌≤◌, ◌<◌, length};
 
 use libc::{STDIN_FILENO, STDOUT_FILENO};

@@ -1,4 +1,6 @@
 // Whether a file is sound: its head, the first event, then the parts of the event data, then its tail; where the parts do not hold, the walk.
+#![tactic(auto)]
+
 ghost use Rattle.std.specs.Prelude.{◌≡◌};
 ghost use Rattle.head.specs.Table.{stop_of};
 ghost use Rattle.read_judge.specs.Inner.{WalkDone, Headed};
@@ -16,7 +18,7 @@ pub mod tail;
 
 // 0 for a sound file, else the number of what is wrong first, and its place where one is named.
 #[repr(C)]
-#[derive(Drop)]
+#[derive(Clone, Copy)]
 pub struct Checked {
     pub refused: u8,
     pub offset: usize,

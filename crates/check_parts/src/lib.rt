@@ -1,5 +1,7 @@
 // Whether the parts of a file's event data are those of a sound replay, each in one pass: the start block's length, the blocks of codes, the payload
 // table, the frames with ports in any order, and at most two ends.
+#![tactic(auto)]
+
 ghost use Rattle.std.specs.Prelude.{◌≡◌, ◌≤◌, ◌<◌, length};
 ghost use Rattle.read_outline.specs.Inner.{Within};
 ghost use Rattle.check_parts.specs.Inner.{tabled_at, frames_at, coded_at, sound_at};

@@ -1,4 +1,6 @@
 // Whether a file's payload table is the one that document 01 has for a version.
+#![tactic(auto)]
+
 ghost use Rattle.std.specs.Prelude.{◌≡◌, ◌≤◌, ◌<◌, length};
 ghost use Rattle.head.specs.Table.{starts_with};
 ghost use Rattle.check_table.specs.Table.{table_is};

@@ -1,1 +1,2 @@
 // What the frames of a replay say as columns: definitions and laws, no code.
+#![tactic(auto)]

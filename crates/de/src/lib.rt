@@ -1,4 +1,6 @@
 // The reader: one step, and the walk of a replay, whole or cut.
+#![tactic(auto)]
+
 ghost use Rattle.std.specs.Prelude.{◌≡◌, ◌≤◌};
 ghost use Rattle.head.specs.Step.{step_of};
 ghost use Rattle.head.specs.Numbers.{step_numbers};
@@ -10,7 +12,7 @@ ghost use Rattle.de.specs.Inner.{stopped};
 use head::Step;
 
 // What a whole walk answers.
-#[derive(Drop)]
+#[derive(Clone, Copy)]
 pub enum Walked {
     Done {
         events: usize,
@@ -25,7 +27,7 @@ pub enum Walked {
 }
 
 // What the walking loop yields: its place, how many events it passed, and what stands there.
-#[derive(Drop)]
+#[derive(Clone, Copy)]
 struct Stop {
     place: usize,
     events: usize,

@@ -9,7 +9,7 @@ use layout::payloads::event_of;
 
 // A family's shape: whether the version has it, its code, its rows, and its columns: how many, their bytes and their widths.
 // A block has `block` cells.
-#[derive(Drop)]
+#[derive(Clone, Copy)]
 pub struct Shape {
     pub given: bool,
     pub code: u8,
@@ -42,7 +42,7 @@ pub fn shape_of(f: Frames, family: Family) -> Shape
 }
 
 // The shapes of all families.
-#[derive(Drop)]
+#[derive(Clone, Copy)]
 pub struct Shapes {
     pub start: Shape,
     pub pre: Shape,

@@ -1,4 +1,6 @@
 // The call: why a file is no replay that can be read into columns, as a place and a reason.
+#![tactic(auto)]
+
 ghost use Rattle.std.specs.Prelude.{◌≡◌, true, cond, leb};
 ghost use Rattle.format.specs.Version.{accepted_of};
 ghost use Rattle.start.specs.Length.{length_of};
@@ -19,7 +21,7 @@ use start::length::block_length;
 // 0 or the refusal that `measure` gives. Where it is 19, why: a reason, how many events stand before the fault, and the byte of the faulty event, or of
 // the end of the events where no event is faulty; of a newer recorder's file (above 3.18.0) reason, event and offset are 0.
 #[repr(C)]
-#[derive(Drop)]
+#[derive(Clone, Copy)]
 pub struct Faulted {
     pub refused: u8,
     pub reason: u8,

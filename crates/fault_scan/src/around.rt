@@ -20,7 +20,7 @@ use read_outline::listed_right;
 use read_scan::event::span_of;
 
 // A block that others follow, the last one, or a wrong one.
-#[derive(Drop)]
+#[derive(Clone, Copy)]
 pub enum Block {
     Full,
     Last,
@@ -28,7 +28,7 @@ pub enum Block {
 }
 
 // An end may come, or not.
-#[derive(Drop)]
+#[derive(Clone, Copy)]
 pub enum Closing {
     Comes,
     Wrong { reason: u8 },

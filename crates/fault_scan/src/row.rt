@@ -18,7 +18,7 @@ use read_scan::event::{Turn, try_event};
 use read_scan::tally::{Tally, counted};
 
 // It came, or it may not.
-#[derive(Drop)]
+#[derive(Clone, Copy)]
 pub enum Row {
     Goes { stage: Stage, tally: Tally },
     Wrong { reason: u8 },

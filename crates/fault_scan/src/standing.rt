@@ -3,7 +3,7 @@ use read_order::stage::Stage;
 use read_scan::tally::Tally;
 
 // After its start and so many full blocks of codes; among its frames; after an end at a place; after two.
-#[derive(Drop)]
+#[derive(Clone, Copy)]
 pub enum Standing {
     Coding { blocks: usize },
     Framing { stage: Stage, tally: Tally },
@@ -12,7 +12,7 @@ pub enum Standing {
 }
 
 // An event came, or it may not.
-#[derive(Drop)]
+#[derive(Clone, Copy)]
 pub enum Turned {
     Goes { standing: Standing },
     Wrong { reason: u8 },

@@ -16,7 +16,7 @@ use players::presence::is_present;
 use players::slots::Slots;
 
 // The bytes of a frame's start and end, of a player's Pre and Post, and of a row of each family with offsets; none where the version lacks them.
-#[derive(Drop)]
+#[derive(Clone, Copy)]
 pub struct Sizes {
     pub frame: usize,
     pub player: usize,

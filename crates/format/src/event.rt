@@ -3,7 +3,7 @@ ghost use Rattle.std.specs.Prelude.{◌≡◌};
 ghost use Rattle.wire.specs.Wire.{Room, Wrote};
 ghost use Rattle.format.specs.Event.{code_of, signature};
 
-#[derive(Drop)]
+#[derive(Clone, Copy)]
 pub enum Event {
     Payloads,
     GameStart,

@@ -6,7 +6,7 @@ ghost use Rattle.format.specs.FrameId.{place_of};
 
 use super::signed::signed32;
 
-#[derive(Drop)]
+#[derive(Clone, Copy)]
 pub struct FrameId {
     pub index: i32,
 }

@@ -1,4 +1,6 @@
 // The words of the replay format: versions, frame ids, event codes, the signature, refusal numbers, and signed numbers by their bits.
+#![tactic(auto)]
+
 pub mod event;
 pub mod frame_id;
 pub mod refusal;

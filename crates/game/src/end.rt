@@ -2,7 +2,7 @@
 
 // A mark is a byte: nonzero is yes. The initiator is a signed byte's bits: 255, which is -1, is none, and 0 to 3 a port.
 #[repr(C)]
-#[derive(Drop)]
+#[derive(Clone, Copy)]
 pub struct End {
     pub given: u8,
     pub method: u8,

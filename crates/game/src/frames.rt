@@ -7,7 +7,7 @@ use layout::columns::Family;
 
 // How many rows the families have: one a frame, or as many as are given.
 #[repr(C)]
-#[derive(Drop)]
+#[derive(Clone, Copy)]
 pub struct Counts {
     pub frames: usize,
     pub items: usize,
@@ -18,7 +18,7 @@ pub struct Counts {
 
 // A port column: its port, whether it has a follower (nonzero is yes), and how many presence bytes each of the two has.
 #[repr(C)]
-#[derive(Drop)]
+#[derive(Clone, Copy)]
 pub struct PortColumn {
     pub port: u8,
     pub follower: u8,
@@ -46,7 +46,7 @@ impl PortColumn {
 }
 
 #[repr(C)]
-#[derive(Drop)]
+#[derive(Clone, Copy)]
 pub struct Frames {
     pub version: Version,
     pub counts: Counts,

@@ -1,5 +1,7 @@
 // The nouns: a game as plain data by value, for everything that writes, judges, reads or shows one. The stores are lent beside it.
 // A mark is a byte: nonzero is yes.
+#![tactic(auto)]
+
 use end::End;
 use frames::Frames;
 use start::Start;
@@ -9,7 +11,7 @@ pub mod frames;
 pub mod start;
 
 #[repr(C)]
-#[derive(Drop)]
+#[derive(Clone, Copy)]
 pub struct Game {
     pub frames: Frames,
     pub start: Start,

@@ -4,7 +4,7 @@ ghost use Rattle.game.specs.MatchTails.{match_tail_number, match_tail_of};
 
 // A text of up to 50 bytes: the first `len` of them.
 #[repr(C)]
-#[derive(Drop)]
+#[derive(Clone, Copy)]
 pub struct Text {
     pub bytes: [u8; 50],
     pub len: usize,
@@ -12,7 +12,7 @@ pub struct Text {
 
 // A byte that may be missing.
 #[repr(C)]
-#[derive(Drop)]
+#[derive(Clone, Copy)]
 pub struct Optional {
     pub given: u8,
     pub value: u8,
@@ -20,7 +20,7 @@ pub struct Optional {
 
 // The team that a player belongs to.
 #[repr(C)]
-#[derive(Drop)]
+#[derive(Clone, Copy)]
 pub struct Team {
     pub given: u8,
     pub color: u8,
@@ -29,7 +29,7 @@ pub struct Team {
 
 // The "Universal Controller Fix" mod.
 #[repr(C)]
-#[derive(Drop)]
+#[derive(Clone, Copy)]
 pub struct Ucf {
     pub given: u8,
     pub dash_back: u32,
@@ -38,7 +38,7 @@ pub struct Ucf {
 
 // Netplay name, connect code, and Slippi UID.
 #[repr(C)]
-#[derive(Drop)]
+#[derive(Clone, Copy)]
 pub struct Netplay {
     pub given: u8,
     pub name: Text,
@@ -49,7 +49,7 @@ pub struct Netplay {
 
 // A port's player, who may be missing. `kind` is 0 for a human, 1 for a CPU, 2 for a demo.
 #[repr(C)]
-#[derive(Drop)]
+#[derive(Clone, Copy)]
 pub struct Seat {
     pub given: u8,
     pub character: u8,
@@ -73,7 +73,7 @@ pub struct Seat {
 
 // Major and minor scene numbers.
 #[repr(C)]
-#[derive(Drop)]
+#[derive(Clone, Copy)]
 pub struct Scene {
     pub given: u8,
     pub minor: u8,
@@ -81,7 +81,7 @@ pub struct Scene {
 }
 
 // The bytes of a block after the zero that ends its match id, through 751: zeros, or what the template has there.
-#[derive(Drop)]
+#[derive(Clone, Copy)]
 pub enum MatchTail {
     Cleared,
     Kept,
@@ -112,7 +112,7 @@ impl MatchTail {
 
 // The match that a game belongs to. `tail` is the number of a `MatchTail`.
 #[repr(C)]
-#[derive(Drop)]
+#[derive(Clone, Copy)]
 pub struct Match {
     pub given: u8,
     pub tail: u8,
@@ -123,7 +123,7 @@ pub struct Match {
 
 // Seat n is port n.
 #[repr(C)]
-#[derive(Drop)]
+#[derive(Clone, Copy)]
 pub struct Start {
     pub bitfield: [u8; 4],
     pub is_raining_bombs: u8,

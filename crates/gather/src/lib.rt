@@ -1,4 +1,6 @@
 // The cells of eight rows that follow each other, from records at eight places, column by column: a column's eight cells stand together in their store.
+#![tactic(auto)]
+
 ghost use Rattle.std.specs.Prelude.{◌≡◌, ◌+◌, ◌≤◌, [], ◌∷◌, length};
 ghost use Rattle.layout.specs.Columns.{sum};
 ghost use Rattle.record.specs.Inner.{InStore};

@@ -1,5 +1,7 @@
 // What every reader of a replay shares: the head of a file with its payload table, read once (`table`), and one step inside the event
 // data by what the head gave.
+#![tactic(auto)]
+
 ghost use Rattle.std.specs.Prelude.{◌≡◌, ◌≤◌, ◌<◌, length, get_or};
 ghost use Rattle.head.specs.Step.{event_in, step_of};
 ghost use Rattle.head.specs.Inner.{Agree, Opened, Advances};
@@ -9,7 +11,7 @@ use format::refusal::{BAD_PLACE, UNKNOWN_EVENT};
 pub mod table;
 
 // What stands at a place.
-#[derive(Drop)]
+#[derive(Clone, Copy)]
 pub enum Step {
     Event {
         code: u8,

@@ -9,7 +9,7 @@ use format::event::{FILE_SIGNATURE, PAYLOADS};
 use format::refusal::{BAD_TABLE, NOT_A_REPLAY};
 
 // The payload table: codes, the sizes of their payloads, and how many there are. A size byte counts no more than 84.
-#[derive(Drop)]
+#[derive(Clone, Copy)]
 pub struct Table {
     pub codes: [u8; 84],
     pub sizes: [u16; 84],
@@ -17,14 +17,14 @@ pub struct Table {
 }
 
 // Where the event data that is present ends, and whether that is its declared end.
-#[derive(Drop)]
+#[derive(Clone, Copy)]
 pub struct Bounds {
     pub stop: usize,
     pub whole: bool,
 }
 
 // The number and offset of a refusal, or 0 and what reading events needs beside the table's index.
-#[derive(Drop)]
+#[derive(Clone, Copy)]
 pub struct Head {
     pub refusal: u8,
     pub offset: usize,

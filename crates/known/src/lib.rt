@@ -1,4 +1,6 @@
 // What 3.18 knows of a newer recorder's events: the definition is in specs/, here is the test of a code.
+#![tactic(auto)]
+
 ghost use Rattle.std.specs.Prelude.{◌≡◌};
 ghost use Rattle.known.specs.Known.{is_known};
 

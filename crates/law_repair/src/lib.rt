@@ -1,1 +1,2 @@
 // That what is repaired is accepted: laws, no code.
+#![tactic(auto)]

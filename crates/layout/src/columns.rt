@@ -5,7 +5,7 @@ ghost use Rattle.layout.specs.Inner.{column_of, first_column, count_of};
 
 use format::version::Version;
 
-#[derive(Drop)]
+#[derive(Clone, Copy)]
 pub enum Family {
     Pre,
     Post,
@@ -107,7 +107,7 @@ impl Family {
 }
 
 // A column: its width in bytes, and the first version that has it.
-#[derive(Drop)]
+#[derive(Clone, Copy)]
 pub struct Column {
     pub width: u8,
     pub major: u8,

@@ -8,7 +8,7 @@ use super::columns::{COLUMNS, Family, column_of};
 use format::version::Version;
 
 // The columns of a version's record: how many, their bytes, and the width of each.
-#[derive(Drop)]
+#[derive(Clone, Copy)]
 pub struct Listing {
     pub count: usize,
     pub bytes: usize,
@@ -78,7 +78,7 @@ fn alike(widths: &[u8], k: usize, n: usize) -> usize
 
 // The same columns as runs of one width: how many runs, the width of each, and how many columns it has.
 // The cells of a run stand together in a store, so that one loop with one limit judges them.
-#[derive(Drop)]
+#[derive(Clone, Copy)]
 pub struct Runs {
     pub columns: usize,
     pub count: usize,

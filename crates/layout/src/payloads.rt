@@ -137,7 +137,7 @@ pub fn payload_size(e: Event, v: Version, block: usize, actual: u32) -> usize
 }
 
 // The payload table: events' codes and their payloads' sizes.
-#[derive(Drop)]
+#[derive(Clone, Copy)]
 pub struct PayloadSizes {
     pub codes: [u8; 12],
     pub sizes: [u16; 12],

@@ -8,7 +8,7 @@ use crate::put::cell;
 use format::refusal;
 
 // The lowest refusal of all rows, the row after them, and the body's length, told up to 65,536.
-#[derive(Drop)]
+#[derive(Clone, Copy)]
 pub struct Judged {
     pub refusal: u8,
     pub next: usize,

@@ -6,7 +6,7 @@ ghost use Rattle.map.specs.Rows.{cell_of, key_of, plain_of, map_at};
 ghost use Rattle.map.specs.Inner.{inside};
 
 // The place after what was written, and the row after the map's last.
-#[derive(Drop)]
+#[derive(Clone, Copy)]
 pub struct Put {
     pub at: usize,
     pub next: usize,

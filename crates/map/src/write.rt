@@ -8,7 +8,7 @@ use crate::put::put_map;
 use format::refusal;
 
 // A refusal, or 0 and the body's length.
-#[derive(Drop)]
+#[derive(Clone, Copy)]
 pub struct Written {
     pub refusal: u8,
     pub len: usize,

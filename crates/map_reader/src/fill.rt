@@ -7,7 +7,7 @@ ghost use Rattle.map_reader.specs.Back.{entry_row, map_rows, count_of};
 use crate::get::{byte_at, text_stop};
 
 // The place after the entries, the row after theirs, and how many there are.
-#[derive(Drop)]
+#[derive(Clone, Copy)]
 pub struct Filled {
     pub stop: usize,
     pub next: usize,

@@ -11,7 +11,7 @@ use crate::keys::repeated;
 use format::refusal;
 
 // A refusal and the wrong place; or 0, the place after what was read, and how many entries it has, those inside too.
-#[derive(Drop)]
+#[derive(Clone, Copy)]
 pub struct Read {
     pub refusal: u8,
     pub stop: usize,
@@ -105,7 +105,7 @@ pub fn read_map(b: &[u8], at: usize, depth: usize) -> Read
 }
 
 // A refusal and the wrong place in the body, 0 where none is named; or 0, how many entries the map has itself, and how many in all.
-#[derive(Drop)]
+#[derive(Clone, Copy)]
 pub struct MapRead {
     pub refusal: u8,
     pub place: usize,

@@ -12,7 +12,7 @@ use layout::listing::columns;
 
 // How many cells, offsets, presence bytes and bytes of codes the stores take.
 #[repr(C)]
-#[derive(Drop)]
+#[derive(Clone, Copy)]
 pub struct Lengths {
     pub ids: usize,
     pub starts: usize,
@@ -32,7 +32,7 @@ pub struct Lengths {
 }
 
 // Port columns, and how many they are.
-#[derive(Drop)]
+#[derive(Clone, Copy)]
 struct Ports {
     ports: [PortColumn; 4],
     count: usize,

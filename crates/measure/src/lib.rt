@@ -1,4 +1,6 @@
 // Columns back from a replay: `measure` says what a file needs, `read` fills lent stores with it.
+#![tactic(auto)]
+
 use crate::lengths::Lengths;
 use game::Game;
 use game::frames::Frames;
@@ -12,7 +14,7 @@ pub mod tail;
 
 // Where the start block stands in a file, what its tail is (0 for one brace, 1 for metadata, 2 for anything else), and where the metadata's body stands.
 #[repr(C)]
-#[derive(Drop)]
+#[derive(Clone, Copy)]
 pub struct Places {
     pub block_at: usize,
     pub block_len: usize,
@@ -23,7 +25,7 @@ pub struct Places {
 
 // What `read` needs, or why it refuses; and whether only a part of it is known, as of a newer recorder's file. A field that an answer lacks is 0.
 #[repr(C)]
-#[derive(Drop)]
+#[derive(Clone, Copy)]
 pub struct Measured {
     pub refused: u8,
     pub partly: u8,
@@ -37,7 +39,7 @@ pub struct Measured {
 
 // The game of a replay, or why it is refused.
 #[repr(C)]
-#[derive(Drop)]
+#[derive(Clone, Copy)]
 pub struct Opened {
     pub refused: u8,
     pub partly: u8,

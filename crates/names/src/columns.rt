@@ -101,7 +101,7 @@ u type
 ";
 
 // A column's kind, and its name with zeros behind it.
-#[derive(Drop)]
+#[derive(Clone, Copy)]
 pub struct Called {
     pub kind: u8,
     pub name: [u8; 32],
@@ -109,7 +109,7 @@ pub struct Called {
 
 // A column, or why there is none: then all else is 0.
 #[repr(C)]
-#[derive(Drop)]
+#[derive(Clone, Copy)]
 pub struct Described {
     pub refused: u8,
     pub width: u8,

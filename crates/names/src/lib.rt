@@ -1,4 +1,6 @@
 // What columns, refusals and faults are called.
+#![tactic(auto)]
+
 pub mod columns;
 pub mod faults;
 pub mod lines;

@@ -42,7 +42,7 @@ const UNKNOWN: [u8; 36] = *b"for a reason that is not known here
 
 // Why a call was refused, in words with zeros behind them.
 #[repr(C)]
-#[derive(Drop)]
+#[derive(Clone, Copy)]
 pub struct Words {
     pub text: [u8; 128],
 }

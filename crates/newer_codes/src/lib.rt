@@ -1,4 +1,6 @@
 // The blocks of codes of a newer recorder's file: events one at a time by the file's own table, unknown ones passed over, and longer blocks read from the front.
+#![tactic(auto)]
+
 ghost use Rattle.std.specs.Prelude.{◌≡◌, true, List, ◌*◌, ◌≤◌, ◌<◌, length, get_or};
 ghost use Rattle.wire.specs.Wire.{splice};
 ghost use Rattle.format.specs.Event.{code_of};

@@ -1,4 +1,6 @@
 // The ends of a newer recorder's file: events one at a time by the file's own table, unknown ones passed over, and longer ends read from the front.
+#![tactic(auto)]
+
 ghost use Rattle.std.specs.Prelude.{◌≡◌, true, List, ◌≤◌, length};
 ghost use Rattle.format.specs.File.{Ev};
 ghost use Rattle.read_judge.specs.Inner.{Covers};

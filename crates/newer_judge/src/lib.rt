@@ -1,4 +1,6 @@
 // Which replay a file holds, whichever recorder wrote it: up to 3.18.0 as read_judge says, of a newer one by the events that are known.
+#![tactic(auto)]
+
 ghost use Rattle.std.specs.Prelude.{◌≡◌};
 ghost use Rattle.read_judge.specs.Found.{early_refusal};
 ghost use Rattle.newer_judge.specs.Inner.{Newly, CountedNewer, Tells};

@@ -8,7 +8,7 @@ use read_order::stage::Word;
 
 // Where a frame stands: the rank of its last event, its id, the slots whose Post is to come, four bits each and the next one lowest,
 // how many they are, and while Pres come the least slot that may.
-#[derive(Drop)]
+#[derive(Clone, Copy)]
 pub struct Stage {
     pub rank: u8,
     pub id: u32,

@@ -1,4 +1,6 @@
 // The stores of a file that holds a replay, whichever recorder wrote it.
+#![tactic(auto)]
+
 ghost use Rattle.std.specs.Prelude.{◌≡◌, false};
 ghost use Rattle.game.specs.Stores.{lent, cells, offsets};
 ghost use Rattle.read_judge.specs.Found.{version_of};

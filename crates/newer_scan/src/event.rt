@@ -80,7 +80,7 @@ fn count(t: Tally, m: Stage, family: Family, w: Word) -> Tally
 }
 
 // An event is unknown, is taken, is known and none of a frame's, or is wrong.
-#[derive(Drop)]
+#[derive(Clone, Copy)]
 pub enum Turn {
     Passes,
     Goes { stage: Stage, counts: Tally },

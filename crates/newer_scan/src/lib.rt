@@ -1,4 +1,6 @@
 // The frames of a newer recorder's events in one pass: one event at a time by the file's own table, and what is unknown is passed over.
+#![tactic(auto)]
+
 ghost use Rattle.std.specs.Prelude.{◌≡◌, true, List, ◌≤◌, length};
 ghost use Rattle.format.specs.File.{Ev};
 ghost use Rattle.known.specs.Known.{is_newer};

@@ -1,4 +1,6 @@
 // A block, patched in place: numbers and texts at their offsets.
+#![tactic(auto)]
+
 ghost use Rattle.std.specs.Prelude.{◌≡◌, cond, ◌+◌, ◌≤◌, length, take, replicate};
 ghost use Rattle.format.specs.Mark.{flag_of};
 ghost use Rattle.wire.specs.Wire.{part, Wrote};

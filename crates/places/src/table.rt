@@ -8,7 +8,7 @@ use players::slots::Slots;
 
 // How many bytes a frame's parts take: its start and the Pre of its players, the Post of its players and its end, and a row of each family with offsets,
 // which is 0 where the version lacks the family.
-#[derive(Drop)]
+#[derive(Clone, Copy)]
 pub struct Spans {
     pub ahead: usize,
     pub behind: usize,

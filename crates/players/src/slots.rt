@@ -50,7 +50,7 @@ pub fn blocks(f: Frames, family: Family) -> usize
 
 // The slots' ports and follower numbers, where the presence bytes of each begin, and how many they are. With narrow counts it is small enough to be
 // passed by value in a few moves.
-#[derive(Drop)]
+#[derive(Clone, Copy)]
 pub struct Slots {
     pub count: usize,
     pub ports: [u8; 8],

@@ -1,4 +1,6 @@
 // The game of a file, into lent stores: the public `read`.
+#![tactic(auto)]
+
 ghost use Rattle.game.specs.Stores.{lent, cells, offsets};
 ghost use Rattle.measure.specs.Game.{kept};
 ghost use Rattle.measure.specs.Read.{ReadOutcome};

@@ -3,7 +3,7 @@ use super::spans::Spans;
 use game::frames::Counts;
 
 // How many bytes events have, whether a FrameStart begins each frame, and how many rows there are.
-#[derive(Drop)]
+#[derive(Clone, Copy)]
 pub struct Course {
     pub spans: Spans,
     pub start: bool,
@@ -11,7 +11,7 @@ pub struct Course {
 }
 
 // Where the widths of each family's columns end in one table: they begin where those of the family before them end.
-#[derive(Drop)]
+#[derive(Clone, Copy)]
 pub struct Borders {
     pub start: usize,
     pub end: usize,
@@ -22,7 +22,7 @@ pub struct Borders {
 }
 
 // For the stores that are no player's: also whether the version has items and a stage's rows. The table of widths is lent beside it.
-#[derive(Drop)]
+#[derive(Clone, Copy)]
 pub struct Known {
     pub course: Course,
     pub item: bool,

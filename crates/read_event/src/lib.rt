@@ -1,4 +1,6 @@
 // What one event of a frame puts into lent stores: a row, a player's row and bit, a frame's id and offsets.
+#![tactic(auto)]
+
 pub mod alike;
 pub mod known;
 pub mod marks;

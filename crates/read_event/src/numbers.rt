@@ -5,7 +5,7 @@ ghost use Rattle.read_event.specs.Inner.{Numbered};
 use game::frames::Frames;
 use players::slots::Slots;
 
-#[derive(Drop)]
+#[derive(Clone, Copy)]
 pub struct Numbers {
     pub count: usize,
     pub of: [u32; 8],

@@ -1,14 +1,14 @@
 // What a pass has seen.
 
 // How many frames began, and the last one's id.
-#[derive(Drop)]
+#[derive(Clone, Copy)]
 pub struct Open {
     pub frames: usize,
     pub id: u32,
 }
 
 // The next row of each store that has one row an event.
-#[derive(Drop)]
+#[derive(Clone, Copy)]
 pub struct Next {
     pub starts: usize,
     pub ends: usize,
@@ -18,7 +18,7 @@ pub struct Next {
     pub stadiums: usize,
 }
 
-#[derive(Drop)]
+#[derive(Clone, Copy)]
 pub struct Seen {
     pub opened: Open,
     pub next: Next,

@@ -7,7 +7,7 @@ use format::event::{
     STADIUM_TRANSFORMATION,
 };
 
-#[derive(Drop)]
+#[derive(Clone, Copy)]
 pub struct Spans {
     pub pre: usize,
     pub post: usize,

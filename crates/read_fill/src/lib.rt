@@ -1,4 +1,6 @@
 // The stores of a file that holds a replay.
+#![tactic(auto)]
+
 ghost use Rattle.std.specs.Prelude.{◌≡◌, false};
 ghost use Rattle.game.specs.Stores.{lent, cells, offsets};
 ghost use Rattle.read_judge.specs.Inner.{Accepts};

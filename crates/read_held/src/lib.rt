@@ -1,4 +1,6 @@
 // The game of a file that holds a replay, into lent stores that may be too short.
+#![tactic(auto)]
+
 ghost use Rattle.game.specs.Stores.{lent, cells, offsets};
 ghost use Rattle.newer_judge.specs.Inner.{Shows};
 ghost use Rattle.measure.specs.Game.{kept};

@@ -6,7 +6,7 @@ use format::event::GAME_START;
 use format::version::Version;
 
 // A GameStart of at least four bytes, which says a version; or anything else.
-#[derive(Drop)]
+#[derive(Clone, Copy)]
 pub enum First {
     Opens { version: Version, len: usize },
     Other,

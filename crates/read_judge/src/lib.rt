@@ -1,4 +1,6 @@
 // Which replay a file holds: its head, the first event, then the parts of the event data, and its counts; where these do not hold, the walk.
+#![tactic(auto)]
+
 ghost use Rattle.read_judge.specs.Inner.{Counted, Verdicts, refused_as, counts_by, WalkDone, Headed};
 ghost use Rattle.std.specs.Prelude.{◌≡◌};
 
@@ -15,7 +17,7 @@ pub mod first;
 pub mod parts;
 
 // Why a file is refused; or where its events start and end, and the parts of the replay that it holds.
-#[derive(Drop)]
+#[derive(Clone, Copy)]
 pub enum Verdict {
     Refused {
         number: u8,

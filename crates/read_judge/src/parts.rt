@@ -9,7 +9,7 @@ use read_scan::tally::Tally;
 use start::length::block_length;
 
 // Where the parts stand, and how many there are of each.
-#[derive(Drop)]
+#[derive(Clone, Copy)]
 pub struct Parts {
     pub version: Version,
     pub block_len: usize,
@@ -23,7 +23,7 @@ pub struct Parts {
 }
 
 // The parts of a replay that can be read back, or none.
-#[derive(Drop)]
+#[derive(Clone, Copy)]
 pub enum Judged {
     Held { parts: Parts },
     Wrong,

@@ -14,7 +14,7 @@ use read_event::marks::mark;
 use read_event::seen::{Next, Open, Seen};
 
 // Eight frames a step apart: where the first of them begins, and where its players' events end.
-#[derive(Drop)]
+#[derive(Clone, Copy)]
 pub struct Stride {
     pub at: usize,
     pub step: usize,

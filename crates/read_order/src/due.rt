@@ -4,7 +4,7 @@ ghost use Rattle.grammar.specs.WellFormed.{anyhow, may_precede, may_come};
 ghost use Rattle.read_order.specs.Inner.{order_of, slot_at, due_in};
 
 // Ports ascend, or come in any order.
-#[derive(Drop)]
+#[derive(Clone, Copy)]
 pub enum PortOrder {
     Ascending,
     Anyhow,

@@ -7,7 +7,7 @@ use format::version::Version;
 use layout::columns::Family;
 
 // Where a frame stands: the rank of its last event, its id, where its first Pre stands whose Post is to come, and how many those are.
-#[derive(Drop)]
+#[derive(Clone, Copy)]
 pub struct Stage {
     pub rank: u8,
     pub id: u32,
@@ -16,7 +16,7 @@ pub struct Stage {
 }
 
 // What an event says: its frame's id and, of a player's, who it is.
-#[derive(Drop)]
+#[derive(Clone, Copy)]
 pub struct Word {
     pub id: u32,
     pub port: u32,

@@ -1,7 +1,7 @@
 // What stands before the frames of a replay, and after them.
 
 // The blocks of codes end at a place: how many there are, and how many of their bytes are codes.
-#[derive(Drop)]
+#[derive(Clone, Copy)]
 pub enum Codes {
     Ended {
         at: usize,
@@ -12,7 +12,7 @@ pub enum Codes {
 }
 
 // How many ends there are.
-#[derive(Drop)]
+#[derive(Clone, Copy)]
 pub enum Ends {
     Good { count: usize },
     Wrong,

@@ -1,4 +1,6 @@
 // What stands round the frames of a replay: blocks of codes before them, ends after them.
+#![tactic(auto)]
+
 ghost use Rattle.std.specs.Prelude.{◌≡◌, suc, ◌+◌, ◌*◌, ◌≤◌, length, get_or};
 ghost use Rattle.wire.specs.Wire.{splice, part, ranged};
 ghost use Rattle.format.specs.Event.{code_of};

@@ -11,7 +11,7 @@ use read_event::seen::Open;
 use read_event::spans::{Spans, span_of};
 
 // One frame's: the place behind its events, how many of them are players', and what began with it.
-#[derive(Drop)]
+#[derive(Clone, Copy)]
 pub struct Scan {
     pub next: usize,
     pub count: usize,
@@ -19,7 +19,7 @@ pub struct Scan {
 }
 
 // Several frames': the place behind them, how many players' events each has, how many frames they are, which the first one is, and what began last.
-#[derive(Drop)]
+#[derive(Clone, Copy)]
 pub struct Batch {
     pub next: usize,
     pub count: usize,

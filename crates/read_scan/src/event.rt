@@ -17,7 +17,7 @@ use read_order::stage::{Stage, Word};
 use read_order::step::moved;
 
 // A code of the frames, or another.
-#[derive(Drop)]
+#[derive(Clone, Copy)]
 pub enum Kind {
     Frame(Family),
     Other,
@@ -94,7 +94,7 @@ fn word_at(file: &[u8], at: usize) -> Word
 }
 
 // One turn: the event was taken, or it is wrong.
-#[derive(Drop)]
+#[derive(Clone, Copy)]
 pub enum Turn {
     Goes {
         stage: Stage,

@@ -8,7 +8,7 @@ use layout::columns::Family;
 use read_order::stage::Stage;
 
 // Where a frame stands after them, what was counted, and how many bytes they have.
-#[derive(Drop)]
+#[derive(Clone, Copy)]
 pub struct Leap {
     pub stage: Stage,
     pub tally: Tally,

@@ -1,4 +1,6 @@
 // The frames of a file's events in one pass.
+#![tactic(auto)]
+
 ghost use Rattle.std.specs.Prelude.{◌≡◌, suc, ◌≤◌, length};
 ghost use Rattle.grammar.specs.Machine.{initial};
 ghost use Rattle.read_order.specs.Inner.{order_of};
@@ -23,7 +25,7 @@ use sizes::sizes_of;
 use tally::{Tally, counted, nothing};
 
 // The frames are in order and end at a place, with what was counted, or they are wrong.
-#[derive(Drop)]
+#[derive(Clone, Copy)]
 pub enum Ran {
     Ended { at: usize, tally: Tally },
     Wrong,

@@ -9,7 +9,7 @@ use layout::columns::Family;
 use read_order::stage::{Stage, Word, is_inside, slot};
 
 // How many frames and rows there were, a bit for each of the eight slots that ever had a Pre, and whether neighbouring frames had unlike ids.
-#[derive(Drop)]
+#[derive(Clone, Copy)]
 pub struct Tally {
     pub frames: usize,
     pub items: usize,

@@ -1,4 +1,6 @@
 // The start that a block says, where the block stands in a file.
+#![tactic(auto)]
+
 ghost use Rattle.std.specs.Prelude.{◌≡◌, ◌+◌, ◌≤◌, length};
 ghost use Rattle.wire.specs.Wire.{part};
 ghost use Rattle.start.specs.Length.{length_of};

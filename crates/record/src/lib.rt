@@ -1,4 +1,6 @@
 // One frame record between a lent store of cells and bytes, both ways, by the widths of its columns.
+#![tactic(auto)]
+
 ghost use Rattle.std.specs.Prelude.{◌≡◌, ◌+◌, ◌-◌, ◌≤◌, length, drop};
 ghost use Rattle.wire.specs.Wire.{number, part, Room, Wrote};
 ghost use Rattle.format.specs.File.{event_bytes};
@@ -7,7 +9,7 @@ ghost use Rattle.record.specs.Record.{player_bytes, record_of, read_back};
 ghost use Rattle.record.specs.Inner.{head_bytes, InStore};
 
 // What stands before a record's cells. Pre and Post name their player.
-#[derive(Drop)]
+#[derive(Clone, Copy)]
 pub struct Head {
     pub code: u8,
     pub id: u32,

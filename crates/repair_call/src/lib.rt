@@ -1,4 +1,6 @@
 // The calls: what a file's longest beginning is, and that beginning as a file of its own.
+#![tactic(auto)]
+
 ghost use Rattle.std.specs.Prelude.{◌≡◌, cond, [], ◌∷◌, ◌++◌, ◌+◌, ◌-◌, ◌≤◌, length, drop};
 ghost use Rattle.wire.specs.Wire.{splice, Wrote};
 ghost use Rattle.repair_call.specs.Outcome.{unrepaired, repair_of, RepairMeasured, RepairOutcome};
@@ -13,7 +15,7 @@ use repair_walk::pass_events;
 // 0 or why nothing is kept; which tail the file has then, what its length field said and says then, how many bytes it has then; how many
 // events and how many bytes of events are kept; how many events, and how many bytes behind those kept, are not.
 #[repr(C)]
-#[derive(Drop)]
+#[derive(Clone, Copy)]
 pub struct Repaired {
     pub refused: u8,
     pub tail: u8,
@@ -27,7 +29,7 @@ pub struct Repaired {
 }
 
 // Which tail goes behind what is kept, how long it is, and how many bytes are not kept.
-#[derive(Drop)]
+#[derive(Clone, Copy)]
 pub struct Behind {
     pub tail: u8,
     pub len: usize,

@@ -1,4 +1,6 @@
 // The head of a file whose length field is not looked at: it is read from a copy, in which the length was never filled in.
+#![tactic(auto)]
+
 ghost use Rattle.std.specs.Prelude.{◌≡◌, ◌≤◌, length};
 ghost use Rattle.head.specs.Inner.{Blank, HeadOf};
 ghost use Rattle.de.specs.Cut.{zeroed};
@@ -8,7 +10,7 @@ use format::refusal::NOT_A_REPLAY;
 use head::table::Head;
 
 // The refusal of a head, or 0 and where its events start.
-#[derive(Drop)]
+#[derive(Clone, Copy)]
 pub struct Top {
     pub refusal: u8,
     pub first: usize,

@@ -1,4 +1,6 @@
 // How much of a file is a replay: why none is, or where its events start and where the longest beginning stops.
+#![tactic(auto)]
+
 ghost use Rattle.std.specs.Prelude.{◌≡◌};
 ghost use Rattle.head.specs.Inner.{Blank};
 ghost use Rattle.repair_judge.specs.Inner.{Topped, Opening, Judges};
@@ -11,7 +13,7 @@ use repair_head::open_head;
 use repair_scan::kept_from;
 
 // A refusal's number, or 0 and two places.
-#[derive(Drop)]
+#[derive(Clone, Copy)]
 pub struct Judged {
     pub refused: u8,
     pub first: usize,

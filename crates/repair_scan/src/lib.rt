@@ -1,4 +1,6 @@
 // How far the events of a file are a replay's: the frames in one pass, with the last place where no frame is open, then the ends.
+#![tactic(auto)]
+
 ghost use Rattle.std.specs.Prelude.{◌≡◌, suc, ◌≤◌, length};
 ghost use Rattle.grammar.specs.Machine.{initial};
 ghost use Rattle.read_scan.specs.Counts.{no_tally};

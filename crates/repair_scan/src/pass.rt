@@ -16,7 +16,7 @@ use read_scan::sizes::sizes_of;
 use read_scan::tally::{counted, nothing};
 
 // Where the frames stop, and the last place up to there where a replay may end.
-#[derive(Drop)]
+#[derive(Clone, Copy)]
 pub struct Reached {
     pub at: usize,
     pub best: usize,

@@ -1,11 +1,13 @@
 // The events of a file from a place on, as far as they are listed and whole.
+#![tactic(auto)]
+
 ghost use Rattle.std.specs.Prelude.{◌≡◌, suc, ◌≤◌, length};
 ghost use Rattle.repair_walk.specs.Inner.{is_whole, passed_from};
 
 use read_scan::event::span_of;
 
 // Where they stop, and how many they are.
-#[derive(Drop)]
+#[derive(Clone, Copy)]
 pub struct Passed {
     pub place: usize,
     pub events: usize,

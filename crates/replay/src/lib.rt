@@ -1,5 +1,7 @@
 // The reader as a value: the lent replay beside a place in it. The borrow checker covers no function over a struct that holds a
 // reference, so these calls are few and thin, and each is proved by hand. The work is `de::step_at`, which is covered.
+#![tactic(auto)]
+
 ghost use Rattle.std.specs.Prelude.{◌≡◌};
 ghost use Rattle.head.specs.Table.{table_of, first_place};
 ghost use Rattle.head.specs.Step.{step_of};
@@ -8,7 +10,7 @@ ghost use Rattle.replay.specs.Value.{held_at};
 
 use head::Step;
 
-#[derive(Drop)]
+#[derive(Clone, Copy)]
 pub struct Replay<'a> {
     pub bytes: &'a [u8],
     pub at: usize,

@@ -1,4 +1,6 @@
 // Rollback masks: which frames repeat the id of another.
+#![tactic(auto)]
+
 ghost use Rattle.std.specs.Prelude.{◌≡◌, ◌≤◌, ◌<◌, length, replicate};
 ghost use Rattle.rollback.specs.Mask.{place, needed, mask_of, scratch_of, RollbackOutcome};
 ghost use Rattle.rollback.specs.Inner.{turn_of};

@@ -1,4 +1,6 @@
 // How much room to reserve for a replay before its game is known.
+#![tactic(auto)]
+
 ghost use Rattle.std.specs.Prelude.{◌≡◌, true, map, ◌≤◌, length};
 ghost use Rattle.format.specs.File.{table_bytes};
 ghost use Rattle.format.specs.Refusal.{lowest};
@@ -16,7 +18,7 @@ use layout::payloads::{is_listed, payload_size, payload_sizes};
 // What a file will have at most: the start block's bytes, the slots of its players, the rows of its families, the bytes of its codes and of
 // its metadata's body.
 #[repr(C)]
-#[derive(Drop)]
+#[derive(Clone, Copy)]
 pub struct Plan {
     pub version: Version,
     pub block: usize,
@@ -28,7 +30,7 @@ pub struct Plan {
 
 // The refusal's number, or 0 and the bytes.
 #[repr(C)]
-#[derive(Drop)]
+#[derive(Clone, Copy)]
 pub struct Reserved {
     pub refused: u8,
     pub bytes: usize,

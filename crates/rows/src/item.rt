@@ -10,7 +10,7 @@ use format::signed::signed8;
 use format::version::Version;
 
 #[repr(C)]
-#[derive(Drop)]
+#[derive(Clone, Copy)]
 pub struct Item {
     pub version: Version,
     pub bits: [u32; 32],

@@ -1,4 +1,6 @@
 // The rows of frame records: a record's cells as a struct of numbers and floats.
+#![tactic(auto)]
+
 pub mod cells;
 pub mod float;
 pub mod item;

@@ -5,28 +5,28 @@ ghost use Rattle.rows.specs.Parts.{position_of, velocity_of, triggers_of, veloci
 use super::float::float_of;
 
 #[repr(C)]
-#[derive(Drop)]
+#[derive(Clone, Copy)]
 pub struct Position {
     pub x: f32,
     pub y: f32,
 }
 
 #[repr(C)]
-#[derive(Drop)]
+#[derive(Clone, Copy)]
 pub struct Velocity {
     pub x: f32,
     pub y: f32,
 }
 
 #[repr(C)]
-#[derive(Drop)]
+#[derive(Clone, Copy)]
 pub struct TriggersPhysical {
     pub l: f32,
     pub r: f32,
 }
 
 #[repr(C)]
-#[derive(Drop)]
+#[derive(Clone, Copy)]
 pub struct Velocities {
     pub self_x_air: f32,
     pub self_y: f32,
@@ -36,11 +36,11 @@ pub struct Velocities {
 }
 
 #[repr(C)]
-#[derive(Drop)]
+#[derive(Clone, Copy)]
 pub struct StateFlags(pub u8, pub u8, pub u8, pub u8, pub u8);
 
 #[repr(C)]
-#[derive(Drop)]
+#[derive(Clone, Copy)]
 pub struct ItemMisc(pub u8, pub u8, pub u8, pub u8);
 
 pub fn position_of(x: u32, y: u32) -> Position

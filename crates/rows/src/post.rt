@@ -9,7 +9,7 @@ use super::parts::{Position, StateFlags, Velocities, position_of, velocities_of}
 use format::version::Version;
 
 #[repr(C)]
-#[derive(Drop)]
+#[derive(Clone, Copy)]
 pub struct Post {
     pub version: Version,
     pub present: u8,

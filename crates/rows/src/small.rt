@@ -9,7 +9,7 @@ use format::signed::signed32;
 use format::version::Version;
 
 #[repr(C)]
-#[derive(Drop)]
+#[derive(Clone, Copy)]
 pub struct FrameStart {
     pub version: Version,
     pub bits: [u32; 32],
@@ -18,7 +18,7 @@ pub struct FrameStart {
 }
 
 #[repr(C)]
-#[derive(Drop)]
+#[derive(Clone, Copy)]
 pub struct FrameEnd {
     pub version: Version,
     pub bits: [u32; 32],
@@ -26,7 +26,7 @@ pub struct FrameEnd {
 }
 
 #[repr(C)]
-#[derive(Drop)]
+#[derive(Clone, Copy)]
 pub struct FodPlatform {
     pub version: Version,
     pub bits: [u32; 32],
@@ -35,7 +35,7 @@ pub struct FodPlatform {
 }
 
 #[repr(C)]
-#[derive(Drop)]
+#[derive(Clone, Copy)]
 pub struct DreamlandWhispy {
     pub version: Version,
     pub bits: [u32; 32],
@@ -43,7 +43,7 @@ pub struct DreamlandWhispy {
 }
 
 #[repr(C)]
-#[derive(Drop)]
+#[derive(Clone, Copy)]
 pub struct StadiumTransformation {
     pub version: Version,
     pub bits: [u32; 32],

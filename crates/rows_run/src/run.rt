@@ -18,7 +18,7 @@ use players::slots::blocks;
 
 // The answer: a refusal's number, or 0 and how many cells were put.
 #[repr(C)]
-#[derive(Drop)]
+#[derive(Clone, Copy)]
 pub struct Run {
     pub refused: u8,
     pub len: usize,

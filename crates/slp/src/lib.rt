@@ -1,4 +1,6 @@
 // What C and Rust call: numbers, slices (a pointer, then a count of elements) and structs by value. include/slp.h says it in C's words.
+#![tactic(auto)]
+
 pub mod check;
 pub mod fault;
 pub mod index;

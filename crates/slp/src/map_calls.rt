@@ -6,7 +6,7 @@ ghost use Rattle.map_reader.specs.Answer.{ReadMapOutcome};
 use answers::SlpWritten;
 
 #[repr(C)]
-#[derive(Drop)]
+#[derive(Clone, Copy)]
 pub struct SlpMapRead {
     pub refused: u8,
     pub place: usize,

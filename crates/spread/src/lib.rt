@@ -1,4 +1,6 @@
 // The records of eight rows that follow each other, each at a place of its own, column by column: a column's eight cells stand together in its store.
+#![tactic(auto)]
+
 ghost use Rattle.std.specs.Prelude.{◌≡◌, [], ◌∷◌, ◌+◌, ◌≤◌, length};
 ghost use Rattle.layout.specs.Columns.{sum};
 ghost use Rattle.record.specs.Record.{player_bytes};

@@ -5,7 +5,7 @@ ghost use Rattle.start.specs.Gate.{reaches};
 use format::version::Version;
 
 // From major.minor on fields are written that make the block so many bytes long.
-#[derive(Drop)]
+#[derive(Clone, Copy)]
 pub struct Gate {
     pub major: u8,
     pub minor: u8,

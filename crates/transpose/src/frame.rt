@@ -22,7 +22,7 @@ use rows::small::{FrameEnd, FrameStart};
 
 // What a player does in a frame, and whether it is there: 1, or 0 beside the values that the stores have for it. Its Pre and Post say the same.
 #[repr(C)]
-#[derive(Drop)]
+#[derive(Clone, Copy)]
 pub struct Data {
     pub present: u8,
     pub pre: Pre,
@@ -31,7 +31,7 @@ pub struct Data {
 
 // A port column's players: the leader, and the follower where one is given (1, or 0 where the follower is all zero).
 #[repr(C)]
-#[derive(Drop)]
+#[derive(Clone, Copy)]
 pub struct PortData {
     pub port: u8,
     pub follower_given: u8,
@@ -41,14 +41,14 @@ pub struct PortData {
 
 // The rows of a family that belong to a frame: the first, and how many.
 #[repr(C)]
-#[derive(Drop)]
+#[derive(Clone, Copy)]
 pub struct Range {
     pub first: usize,
     pub count: usize,
 }
 
 #[repr(C)]
-#[derive(Drop)]
+#[derive(Clone, Copy)]
 pub struct Frame {
     pub version: Version,
     pub id: i32,
@@ -63,7 +63,7 @@ pub struct Frame {
 }
 
 #[repr(C)]
-#[derive(Drop)]
+#[derive(Clone, Copy)]
 pub struct FrameRow {
     pub refused: u8,
     pub row: Frame,

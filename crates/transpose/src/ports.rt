@@ -10,7 +10,7 @@ use game::frames::Frames;
 use players::slots::slots_before;
 
 // Where a port column's players are: the leader's slot and the follower's, and for each 1 where there is none.
-#[derive(Drop)]
+#[derive(Clone, Copy)]
 pub struct Seat {
     pub port: u8,
     pub given: u8,

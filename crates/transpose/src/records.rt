@@ -17,42 +17,42 @@ use rows::pre::Pre;
 use rows::small::{DreamlandWhispy, FodPlatform, StadiumTransformation};
 
 #[repr(C)]
-#[derive(Drop)]
+#[derive(Clone, Copy)]
 pub struct PreRow {
     pub refused: u8,
     pub row: Pre,
 }
 
 #[repr(C)]
-#[derive(Drop)]
+#[derive(Clone, Copy)]
 pub struct PostRow {
     pub refused: u8,
     pub row: Post,
 }
 
 #[repr(C)]
-#[derive(Drop)]
+#[derive(Clone, Copy)]
 pub struct ItemRow {
     pub refused: u8,
     pub row: Item,
 }
 
 #[repr(C)]
-#[derive(Drop)]
+#[derive(Clone, Copy)]
 pub struct FodPlatformRow {
     pub refused: u8,
     pub row: FodPlatform,
 }
 
 #[repr(C)]
-#[derive(Drop)]
+#[derive(Clone, Copy)]
 pub struct DreamlandWhispyRow {
     pub refused: u8,
     pub row: DreamlandWhispy,
 }
 
 #[repr(C)]
-#[derive(Drop)]
+#[derive(Clone, Copy)]
 pub struct StadiumTransformationRow {
     pub refused: u8,
     pub row: StadiumTransformation,

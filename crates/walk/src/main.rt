@@ -1,6 +1,8 @@
 // Reads a replay on standard input, and prints one line: events, stray bytes, state; or refused, number, offset.
 // Where reading fails, what was read until then is the input: it is reported like a file that ends there. Where the output takes no more,
 // the line stays unfinished; the program has no other place to say so.
+#![tactic(auto)]
+
 use libc::{STDIN_FILENO, STDOUT_FILENO};
 
 fn main() {

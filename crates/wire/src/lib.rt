@@ -1,4 +1,6 @@
 // Numbers and bytes put into a lent output, and read from a lent input.
+#![tactic(auto)]
+
 ghost use Rattle.std.specs.Prelude.{◌≡◌, ◌+◌, ◌*◌, ◌/◌, ◌%◌, ◌^◌, ◌<◌, ◌≤◌, [], ◌∷◌, length};
 ghost use Rattle.wire.specs.Wire.{be, number, part, Room, Wrote};
 

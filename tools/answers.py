@@ -1,0 +1,477 @@
+#!/usr/bin/env python3
+"""Turns a crate's older proofs, one Proof.antt a function, into Invariants.antt and Answers.antt.
+
+usage: tools/answers.py CRATE [FUNCTION ..]
+
+It was run crate by crate, lowest first, when the repository came to today's Rattle. The names of goals and steps are those that
+`rt check --generated DIR --old-names` lists. What Rattle proves by itself gets no answer. What it cannot turn it names in a line 'left:',
+and keeps the older file beside it as Proof.antt.txt until that is mended by hand.
+"""
+
+import glob
+import json
+import os
+import re
+import subprocess
+import sys
+import tempfile
+
+W = r"[^\s(){}.;,@\"«»\[\]\\]+"
+TOKEN = re.compile(r"--[^\n]*|\"(?:[^\"\\\n]|\\.)*\"|«[^»]*»|" + W + r"|\n|[ \t]+|.")
+TRIVIAL = re.compile(r"^(search rules|omega arith|tt|refl|omega \(arith, ltb-(true|false)\)|search \(rules, [\w-]+\))$")
+FIELDS = {"taken": "true", "left": "false"}
+
+
+def read(path):
+    with open(path, encoding="utf-8") as it:
+        return it.read()
+
+
+def write(path, text):
+    with open(path, "w", encoding="utf-8") as it:
+        it.write(text)
+
+
+def plain(name):
+    """A name without what differs between the older and today's spelling."""
+    name = name.replace("_", "-").replace("'", "")
+    name = re.sub(r"^(overflow|nonzero)-", "", name)
+    return {"loop-holds": "loop-init", "loop-less": "loop-smaller", "loop-again": "loop-preserved"}.get(name, name)
+
+
+class Names:
+    def __init__(self, of):
+        self.of = of
+        self.needs = [tuple(it) for it in of["needs"]]
+        self.asked = [it[0] for it in of["asked_at"]]
+        self.parent, self.step, self.place = {}, {}, {}
+        for it, new in zip(of["places"], of["places_by_name"]):
+            name, parent, step = it[0], it[1], it[2]
+            self.parent[name] = parent
+            self.place[plain(name)] = new
+            self.step.setdefault(plain(step[0]), set()).add(step[1])
+            self.step_at = getattr(self, "step_at", {})
+            self.step_at[name] = (plain(step[0]), step[1])
+        # what an arm says, by the older step and its path
+        self.arm = {}
+        for arm in of["arms"]:
+            for field, step, path in arm[2] if arm else []:
+                if field != "own" and not field.endswith("-own"):
+                    self.arm[(plain(step), tuple(path))] = f"{arm[0]}.{field}"
+        for loop in of["loops"]:
+            self.step.setdefault(plain(loop[0][0]), set()).add(loop[0][1])
+
+    def up(self, place, n):
+        for _ in range(n):
+            place = self.parent.get(place)
+        return place
+
+    def new_step(self, place, word):
+        """The new name of the step that is called word at this place or above it."""
+        at = place
+        while at:
+            old, new = self.step_at.get(at, (None, None))
+            if old == plain(word):
+                return new
+            at = self.parent.get(at)
+        found = self.step.get(plain(word))
+        return next(iter(found)) if found and len(found) == 1 else None
+
+
+def blocks(text):
+    """The declarations of a file, each with the comment above it."""
+    out = []
+    for each in re.split(r"\n(?=[^\s\-]|-- )", "\n" + text):
+        if each.strip():
+            out.append(each.strip("\n"))
+    joined, comment, head = [], [], None
+    for each in out:
+        if each.startswith("--"):
+            comment.append(each)
+            continue
+        name = re.match(r"(?:pub |abbrev |unfoldable )*(" + W + ")", each)[1]
+        if name == "unfolding" or (head == name and not re.match(r"(?:pub |abbrev |unfoldable )*" + re.escape(name) + r" :(\s|$)", each)):
+            joined[-1] = "\n".join([joined[-1], *comment, each])
+        else:
+            joined.append("\n".join([*comment, each]))
+            head = name
+        comment = []
+    return joined
+
+
+def args_of(text):
+    """The arguments that tie.spec is given."""
+    text = text.split("tie.spec", 1)[1]
+    out, depth, word = [], 0, ""
+    for it in text:
+        if it in "([{":
+            depth += 1
+        if it in ")]}":
+            depth -= 1
+            if depth < 0:
+                break
+        if it.isspace() and depth == 0:
+            if word:
+                out.append(word)
+            word = ""
+        else:
+            word += it
+    if word:
+        out.append(word)
+    return out
+
+
+def aligned(args, labels, needs):
+    """For each argument its need, where the named ones fit their labels: the longest alignment."""
+    n, m = len(args), len(needs)
+    best = [[0] * (m + 1) for _ in range(n + 1)]
+
+    def score(i, j):
+        label = labels.get(args[i])
+        if label is None:
+            return 1
+        return 3 if plain(label) == plain(needs[j][0]) or plain(label) == plain(needs[j][1]) else -99 if same_stem(label, needs[j]) is False else 0
+
+    for i in range(n - 1, -1, -1):
+        for j in range(m - 1, -1, -1):
+            best[i][j] = max(best[i + 1][j], best[i][j + 1], best[i + 1][j + 1] + score(i, j))
+    out, i, j = {}, 0, 0
+    while i < n and j < m:
+        if best[i][j] == best[i + 1][j + 1] + score(i, j) and score(i, j) > -50:
+            out[i] = j
+            i, j = i + 1, j + 1
+        elif best[i][j] == best[i + 1][j]:
+            i += 1
+        else:
+            j += 1
+    return out
+
+
+def same_stem(label, need):
+    a = re.sub(r"-\d+$", "", plain(label))
+    b = re.sub(r"-\d+$", "", plain(need[0]))
+    return None if a == b else (True if a.split("-")[0] == b.split("-")[0] else False)
+
+
+class Turn:
+    def __init__(self, path, names, module):
+        self.path, self.names, self.module, self.left = path, names, module, []
+        self.text = read(path)
+
+    def paths(self, text, place, need, root="c"):
+        """Writes each path from root by today's steps, where root is the record at this place."""
+        roots = {root: place}
+        out, at = [], 0
+        for it in re.finditer(r"(?<![\w.'-])(" + W + r")((?:\.[^\s(){}.;,@\[\]\\]+)*)", text):
+            out.append(text[at : it.start()])
+            at = it.end()
+            head, tail = it[1], [x for x in it[2].split(".") if x]
+            if head not in roots:
+                out.append(it[0])
+                continue
+            here, n = roots[head], 0
+            while tail and tail[0] == "before":
+                tail.pop(0)
+                here = self.names.up(here, 1)
+            bound = re.search(r"let (" + W + r") = $", text[: it.start()])
+            after = text[it.end() :]
+            if not tail:
+                if bound and re.match(r"\s+in\b", after):
+                    roots[bound[1]] = here
+                    out.append(head)
+                elif here == roots[head] and head == root:
+                    out.append(head)
+                elif here is None:
+                    self.left.append("a place above the start in " + (need or "?"))
+                    out.append(it[0])
+                else:
+                    new = self.names.place.get(plain(here), here)
+                    self.used_places.add(new)
+                    out.append(f"(goal.at.{need} {root}).{new}" if need else f"⟦{head}⟧")
+                continue
+            told = next((n for n in range(len(tail), 0, -1) if (plain(tail[0]), tuple(tail[1:n])) in self.names.arm), None)
+            step = self.names.new_step(here, tail[0])
+            if told:
+                tail[:told] = [self.names.arm[(plain(tail[0]), tuple(tail[1:told]))]]
+            elif step:
+                tail[0] = step
+                if len(tail) > 1:
+                    tail[1] = FIELDS.get(tail[1], tail[1])
+            if "branch" in tail:
+                self.left.append("a branch in " + (need or "a helper"))
+            out.append(".".join([head, *tail]))
+        out.append(text[at:])
+        return "".join(out)
+
+    def words(self, text, table):
+        return TOKEN.sub(lambda it: table.get(it[0], it[0]), text)
+
+    def variables(self, text, table):
+        """Replaces variables, and no field behind a dot and no label of a record."""
+
+        def one(it):
+            if it[0] not in table or text[: it.start()].endswith("."):
+                return it[0]
+            if re.match(r" =(?!=)", text[it.end() :]) and re.search(r"[{;]\s*$", text[: it.start()]):
+                return it[0]
+            return table[it[0]]
+
+        for it in re.finditer(r"λ ([^.]*)\.", text):
+            hidden = set(re.findall(W, it[1])) & set(table)
+            if hidden:
+                self.left.append(f"a variable {sorted(hidden)} is bound again in an invariant")
+        return TOKEN.sub(one, text)
+
+    def invariant(self, block, k, kind):
+        loop = self.names.of["loops"][k]
+        changed = self.names.of["changed"][k]
+        new, live = loop[0][1], loop[1]
+        lines = block.split("\n")
+        comment = [x for x in lines if x.startswith("--")]
+        body = "\n".join(x for x in lines if not x.startswith("--"))
+        head = re.match(r"(?s)(?:pub )?abbrev (?:pub )?(" + W + r") : tie\.\S+\n((?:unfolding[^\n]*\n)?)\1([^=]*)=(.*)", body)
+        if not head:
+            self.left.append("an invariant of another form: " + body.split("\n")[0])
+            return block
+        params = head[3].split()
+        table, names = {}, []
+        for name in live:
+            names.append(("l.initial." if changed[live.index(name)] else "l.") + name)
+        names += ["l." + name for name, yes in zip(live, changed) if yes]
+        if len(params) != len(names):
+            self.left.append(f"{kind} of {new} takes {len(params)} variables where {len(names)} are live")
+        for a, b in zip(params, names):
+            table[a] = b
+        table.pop("_", None)
+        whole = self.variables(head[4], table)
+        return "\n".join([*comment, f"abbrev pub {kind}-{new} : goal.{kind}-{new}", head[2] + f"{kind}-{new} l ={whole}"])
+
+    def run(self):
+        names = self.names
+        uses, decls, spec = [], [], None
+        for block in blocks(self.text):
+            body = "\n".join(x for x in block.split("\n") if not x.startswith("--"))
+            if body.startswith(("use ", "pub use ")):
+                uses.append(block)
+            elif re.match(r"pub \S+[-_]spec : ", body):
+                spec = body
+            else:
+                decls.append((re.match(r"(?:pub |abbrev |unfoldable )*(" + W + ")", body)[1], block, body))
+        if spec is None or "tie.spec" not in spec:
+            self.left.append("no tie.spec")
+            return
+        args = args_of(spec)
+        opens = re.search(r"(?m)^unfolding[^\n]*\n", spec)
+        self.opens = opens[0] if opens else ""
+        labels, invariants, measures = {}, [], []
+        for name, block, body in decls:
+            it = re.match(r"(?:abbrev |pub )*\S+ : tie\.(Need-)?(\S+)", body)
+            if it and it[1]:
+                labels[name] = it[2]
+            elif it and it[2].startswith("invariant"):
+                invariants.append(name)
+            elif it and it[2].startswith("decreases"):
+                measures.append(name)
+        first = [x for x in args if x in invariants or x in measures]
+        rest = [x for x in args if x not in first]
+        known_need = {}
+        if len(rest) == len(names.needs):
+            fit = {i: i for i in range(len(rest))}
+        else:
+            fit = aligned(rest, labels, names.needs)
+            self.note = f"{len(rest)} arguments for {len(names.needs)} goals"
+        where = {}
+        for i, arg in enumerate(rest):
+            if i in fit:
+                where[arg if arg in labels else i] = fit[i]
+            elif arg in labels:
+                self.left.append(f"no goal for {arg} ({labels[arg]})")
+        renamed = {name: names.needs[where[name]][1] for name in labels if name in where}
+        self.used_places, self.helpers = set(), {}
+        # the invariants and what they cite
+        for_loops = [x for x in args if x in invariants]
+        for_measures = [x for x in args if x in measures]
+        texts = {name: body for name, block, body in decls}
+        cited, todo = set(), invariants + measures
+        while todo:
+            name = todo.pop()
+            for other in texts:
+                if other != name and other not in cited and other not in labels and re.search(r"(?<![\w.'-])" + re.escape(other) + r"(?![\w'-])", texts[name]):
+                    cited.add(other)
+                    todo.append(other)
+        cited -= set(invariants) | set(measures)
+        given, answers = [], []
+        for name, block, body in decls:
+            if name in for_loops:
+                given.append(self.invariant(block, for_loops.index(name), "invariant"))
+            elif name in for_measures:
+                given.append(self.invariant(block, for_measures.index(name), "decreases"))
+            elif name in cited:
+                given.append(re.sub(r"(?m)^(?:pub )?(abbrev |unfoldable )?(?:pub )?(" + re.escape(name) + r" :)", r"\1pub \2", block, count=1))
+            elif name in labels:
+                if name in renamed:
+                    answers.append(self.answer(name, block, where[name], renamed))
+            else:
+                answers.append(self.helper(block, renamed, invariants + measures))
+        for i, arg in enumerate(rest):
+            if arg.startswith("(") and i in where:
+                text = self.inline(arg, where[i], renamed)
+                if text:
+                    answers.append(text)
+        answers = self.lift([x for x in answers if x])
+        self.finish(uses, given, answers, cited)
+
+    def answer(self, name, block, j, renamed):
+        new, place = self.names.needs[j][1], self.names.asked[j]
+        lines = block.split("\n")
+        comment = [x for x in lines if x.startswith("--")]
+        body = "\n".join(x for x in lines if not x.startswith("--"))
+        it = re.match(r"(?s)" + re.escape(name) + r" : [^\n]*\n((?:unfolding[^\n]*\n)?)" + re.escape(name) + r" (c|_)( \S+)? =(.*)", body)
+        if not it:
+            self.left.append(f"an answer of another form: {name}")
+            return block
+        whole, extra = it[4], (it[3] or "").strip()
+        if TRIVIAL.match(whole.strip()) and not it[1]:
+            return None
+        if extra and re.search(r"(?<![\w.])" + re.escape(extra) + r"(?![\w'])", whole):
+            self.left.append(f"{name} uses {extra}")
+        whole = self.paths(self.words(whole, {k: v for k, v in renamed.items() if k != name}), place, new)
+        return "\n".join([*comment, f"pub {new} : goal.{new}", it[1] + f"{new} {it[2]} ={whole}"])
+
+    def inline(self, arg, j, renamed):
+        new, place = self.names.needs[j][1], self.names.asked[j]
+        it = re.match(r"(?s)\(λ (c|_)( \S+)?\.\s(.*)\)$", arg)
+        if not it:
+            self.left.append(f"an argument of another form: {arg[:40]}")
+            return None
+        if TRIVIAL.match(it[3].strip()) and not self.opens:
+            return None
+        extra = (it[2] or "").strip()
+        if extra and re.search(r"(?<![\w.])" + re.escape(extra) + r"(?![\w'])", it[3]):
+            self.left.append(f"{new} uses {extra}")
+        whole = self.paths(self.words(it[3], renamed), place, new)
+        return f"pub {new} : goal.{new}\n{self.opens}{new} {it[1]} = {whole}"
+
+    def helper(self, block, renamed, loops):
+        text = self.words(block, renamed)
+        for it in list(re.finditer(r"\((" + W + r") : tie\.(" + W + r")((?: " + W + r")*)\)", text)):
+            new = self.names.place.get(plain(it[2]))
+            if not new:
+                self.left.append(f"no place {it[2]}")
+                continue
+            self.used_places.add(new)
+            text = text.replace(it[0], f"({it[1]} : {new})")
+            old = next(x for x in self.names.parent if plain(x) == plain(it[2]))
+            text = self.paths(text, old, None, it[1])
+            self.helpers[re.search(r"(?m)^(?:pub |abbrev |unfoldable )*(" + W + r") :", text)[1]] = (it[1], new, text)
+        return text
+
+    def variant(self, name, place, made):
+        """The helper called name, of a record that stands behind its own: every path of it is one of that record too."""
+        root, own, text = self.helpers[name]
+        new = f"{name}_at_{place}" if own != place else name
+        if own == place or new in made:
+            return new
+        text = text.replace(f"({root} : {own})", f"({root} : {place})")
+        text = TOKEN.sub(lambda it: new if it[0] == name and not text[: it.start()].endswith(".") else it[0], text)
+        made[new] = None
+        made[new] = self.lifted(text, place, made, new)
+        return new
+
+    def lifted(self, text, place, made, name=""):
+        """A helper's text, with the helpers that it calls written for its own place."""
+        for other in sorted(self.helpers, key=len, reverse=True):
+            at = re.compile(r"(?<![\w.'-])" + re.escape(other) + r"((?: (?!⟦)[^\s()]+| \([^()]*\))*?) (⟦" + W + r"⟧|c(?![\w.'-]))")
+            if other != name:
+                text = at.sub(lambda it: f"{self.variant(other, place, made)}{it[1]} {it[2].strip('⟦⟧')}" if it[2].startswith("⟦") or self.helpers[other][1] != place else it[0], text)
+        return text
+
+    def lift(self, answers):
+        """Adds, before each helper that calls another at an earlier place, that one written for its own."""
+        out, done = [], set()
+        for text in answers:
+            it = re.search(r"(?m)^(?:pub |abbrev |unfoldable )*(" + W + r") :", text)
+            if it and it[1] in self.helpers:
+                made = {}
+                new = self.lifted(text, self.helpers[it[1]][1], made, it[1])
+                for name, more in made.items():
+                    if name not in done:
+                        out.append(more)
+                        done.add(name)
+                text = new
+                self.used_places.add(self.helpers[it[1]][1])
+            if "⟦" in text:
+                self.left.append("a helper goes up to another place")
+            out.append(text)
+        return out
+
+    def finish(self, uses, given, answers, cited):
+        folder = os.path.dirname(self.path)
+        kept = []
+        for block in uses:
+            for line in block.split("\n"):
+                if line.startswith("--"):
+                    kept.append(line)
+                elif re.search(r"\.(Statement|Tie)(\.\{| as |$)", line):
+                    continue
+                else:
+                    if re.search(r"\.(Lts|Reads|Kinds|Symbol|Code|TheLaws)\b", line):
+                        self.left.append("imports " + line.split(".{")[0])
+                    kept.append(line)
+        comments = [x for x in kept if x.startswith("--")]
+        kept = [x for x in kept if not x.startswith("--")]
+        comments = [x for x in comments if "meets its contract." != x.split("` ")[-1] and x != "-- Assumes nothing."]
+        comments = [re.sub(r"^-- `[^`]*` meets its contract\. ", "-- ", x) for x in comments]
+        if given:
+            body = "\n".join([*comments, *kept, f"use Rattle.{self.module}.Given as goal", ""]) + "\n" + "\n\n".join(given) + "\n"
+            write(os.path.join(folder, "Invariants.antt"), body)
+            comments = []
+        if answers:
+            lines = list(kept) + [f"use Rattle.{self.module}.Goals as goal"]
+            if self.used_places:
+                here = sorted(x for x in self.used_places if any(re.search(r": " + re.escape(x) + r"\)", y) for y in answers))
+                if here:
+                    lines.append(f"use Rattle.{self.module}.Goals.{{{', '.join(here)}}}")
+            if cited:
+                lines.append(f"use Rattle.{self.module}.Invariants.{{{', '.join(sorted(cited))}}}")
+            body = "\n".join([*comments, *lines, ""]) + "\n" + "\n\n".join(answers) + "\n"
+            write(os.path.join(folder, "Answers.antt"), body)
+        if self.left:
+            os.rename(self.path, self.path + ".txt")
+        else:
+            os.remove(self.path)
+
+
+def names_of(crate):
+    with tempfile.TemporaryDirectory() as folder:
+        said = subprocess.run(["rt", "check", "--generated", folder, "--old-names"], cwd=crate, capture_output=True, text=True)
+        path = os.path.join(folder, "names.json")
+        if not os.path.exists(path):
+            sys.exit(said.stdout[-3000:] + said.stderr[-2000:])
+        return json.loads(read(path))
+
+
+def main():
+    os.chdir(os.path.join(os.path.dirname(os.path.realpath(__file__)), ".."))
+    crate, only = sys.argv[1], sys.argv[2:]
+    names = names_of("crates/" + crate)
+    for path in sorted(glob.glob(f"crates/{crate}/proofs/**/Proof.antt", recursive=True)):
+        of = os.path.dirname(path)[len(f"crates/{crate}/proofs/") :].replace("/", ".")
+        if only and of not in only:
+            continue
+        key = f"Rattle-{crate}-proofs.{of}.Lts"
+        if key not in names:
+            print(f"left: {of}: no names ({'a cycle' if '+' in of else 'no function'})")
+            continue
+        turn = Turn(path, Names(names[key]), f"{crate}.proofs.{of}")
+        turn.note = ""
+        try:
+            turn.run()
+        except Exception as error:
+            turn.left.append(f"failed: {error!r}")
+        if turn.left or turn.note:
+            print(f"left: {of}: {'; '.join(turn.left)} {turn.note}")
+
+
+if __name__ == "__main__":
+    main()
