@@ -19,7 +19,9 @@ import tempfile
 W = r"[^\s(){}.;,@\"«»\[\]\\]+"
 TOKEN = re.compile(r"--[^\n]*|\"(?:[^\"\\\n]|\\.)*\"|«[^»]*»|" + W + r"|\n|[ \t]+|.")
 TRIVIAL = re.compile(r"^(search rules|omega arith|tt|refl|omega \(arith, ltb-(true|false)\)|search \(rules, [\w-]+\))$")
-FIELDS = {"taken": "true", "left": "false"}
+FIELDS = {"taken": "true", "left": "false", "inv": "invariant", "pre": "requires", "post": "ensures"}
+# Rattle's words of two parts, in their older spelling
+WORDS = set("well-formed type-inv items-fit element-fits no-deeper len-below len-at-least view-is loan-name".split())
 
 
 def read(path):
@@ -39,19 +41,34 @@ def plain(name):
     return {"loop-holds": "loop-init", "loop-less": "loop-smaller", "loop-again": "loop-preserved"}.get(name, name)
 
 
+LENT = {}
+
+
 class Names:
     def __init__(self, of):
         self.of = of
         self.needs = [tuple(it) for it in of["needs"]]
         self.asked = [it[0] for it in of["asked_at"]]
-        self.parent, self.step, self.place = {}, {}, {}
+        self.parent, self.step, self.place, self.callee = {}, {}, {}, {}
         for it, new in zip(of["places"], of["places_by_name"]):
             name, parent, step = it[0], it[1], it[2]
             self.parent[name] = parent
+            if it[3]:
+                self.callee[step[1]] = (it[3].split("::")[0], it[3].split("::")[-1])
             self.place[plain(name)] = new
-            self.step.setdefault(plain(step[0]), set()).add(step[1])
+            self.step.setdefault(plain(step[0]).lower(), set()).add(step[1])
             self.step_at = getattr(self, "step_at", {})
-            self.step_at[name] = (plain(step[0]), step[1])
+            self.step_at[name] = (plain(step[0]).lower(), step[1])
+        # an array's or a struct's argument, by its older number
+        self.args = {}
+        for old, new in of["args"]:
+            a, b = old.rsplit(".", 1)[-1], new.rsplit(".", 1)[-1]
+            self.args[a] = b
+        # the clauses of a call, by their older number
+        self.clauses = {}
+        for it, clause in zip(of["places"], of["clauses"]):
+            if isinstance(clause, dict) and clause.get("fields"):
+                self.clauses[it[2][1]] = clause["fields"]
         # what an arm says, by the older step and its path
         self.arm = {}
         for arm in of["arms"]:
@@ -59,7 +76,7 @@ class Names:
                 if field != "own" and not field.endswith("-own"):
                     self.arm[(plain(step), tuple(path))] = f"{arm[0]}.{field}"
         for loop in of["loops"]:
-            self.step.setdefault(plain(loop[0][0]), set()).add(loop[0][1])
+            self.step.setdefault(plain(loop[0][0]).lower(), set()).add(loop[0][1])
 
     def up(self, place, n):
         for _ in range(n):
@@ -71,11 +88,25 @@ class Names:
         at = place
         while at:
             old, new = self.step_at.get(at, (None, None))
-            if old == plain(word):
+            if old == plain(word).lower():
                 return new
             at = self.parent.get(at)
-        found = self.step.get(plain(word))
+        found = self.step.get(plain(word).lower())
         return next(iter(found)) if found and len(found) == 1 else None
+
+
+def lent():
+    """For each function of the repository, by its crate and name, the parameters that it is lent to write."""
+    out = {}
+    for path in glob.glob("crates/*/src/**/*.rt", recursive=True):
+        crate = path.split("/")[1]
+        for it in re.finditer(r"(?s)\bfn (\w+)(?:<[^(]*>)?\((.*?)\)\s*(?:->|requires|ensures|\{|where)", read(path)):
+            params = re.findall(r"(\w+)\s*:\s*([^,]*)", it[2])
+            names = [name for name, ty in params if ty.startswith("&mut") or re.match(r"&'\w+ mut", ty)]
+            if re.search(r"&mut self", it[2]):
+                names.insert(0, "self")
+            out[(crate, it[1])] = names
+    return out
 
 
 def blocks(text):
@@ -156,7 +187,9 @@ def same_stem(label, need):
 class Turn:
     def __init__(self, path, names, module):
         self.path, self.names, self.module, self.left = path, names, module, []
-        self.text = read(path)
+        self.text, self.note = read(path), ""
+        # whether helpers keep the records of the walk itself, by which they go up to earlier ones
+        self.walks = False
 
     def paths(self, text, place, need, root="c"):
         """Writes each path from root by today's steps, where root is the record at this place."""
@@ -167,18 +200,22 @@ class Turn:
             at = it.end()
             head, tail = it[1], [x for x in it[2].split(".") if x]
             if head not in roots:
-                out.append(it[0])
+                tail = [x.replace("-", "_") if x in WORDS else self.names.args.get(x, x) for x in tail]
+                out.append(".".join([head, *tail]))
                 continue
             here, n = roots[head], 0
             while tail and tail[0] == "before":
                 tail.pop(0)
+                n += 1
                 here = self.names.up(here, 1)
             bound = re.search(r"let (" + W + r") = $", text[: it.start()])
             after = text[it.end() :]
             if not tail:
                 if bound and re.match(r"\s+in\b", after):
                     roots[bound[1]] = here
-                    out.append(head)
+                    out.append(head + ".before" * (n + bool(need) * (head == root)) * self.walks)
+                elif self.walks:
+                    out.append(head + ".before" * (n + bool(need) * (head == root)))
                 elif here == roots[head] and head == root:
                     out.append(head)
                 elif here is None:
@@ -197,11 +234,25 @@ class Turn:
                 tail[0] = step
                 if len(tail) > 1:
                     tail[1] = FIELDS.get(tail[1], tail[1])
+            if tail[0] in FIELDS and not step and not told:
+                tail[0] = FIELDS[tail[0]]
+            if len(tail) > 2 and tail[1] == "ensures" and tail[0] in self.names.clauses and tail[2].isdigit():
+                tail[2] = self.names.clauses[tail[0]][int(tail[2])]
+            tail = [x.replace("-", "_") if x in WORDS else self.names.args.get(x, x) if k else x for k, x in enumerate(tail)]
+            written = LENT.get(self.names.callee.get(tail[0]), [])
+            if len(tail) > 2 and tail[1] in ("new", "auto") and tail[2].isdigit() and int(tail[2]) < len(written):
+                tail[2] = written[int(tail[2])]
             if "branch" in tail:
                 self.left.append("a branch in " + (need or "a helper"))
             out.append(".".join([head, *tail]))
         out.append(text[at:])
-        return "".join(out)
+        text = "".join(out)
+        # a name for what is now the record itself
+        for it in re.findall(r"let (\w+) = " + root + r" in\s+", text):
+            if not re.search(r"λ[^.]*\b" + it + r"\b", text):
+                text = re.sub(r"let " + it + " = " + root + r" in\s+", "", text)
+                text = re.sub(r"(?<![\w.'-])" + it + r"(?![\w'-])", root, text)
+        return text
 
     def words(self, text, table):
         return TOKEN.sub(lambda it: table.get(it[0], it[0]), text)
@@ -246,7 +297,19 @@ class Turn:
         whole = self.variables(head[4], table)
         return "\n".join([*comment, f"abbrev pub {kind}-{new} : goal.{kind}-{new}", head[2] + f"{kind}-{new} l ={whole}"])
 
+    def inner(self):
+        """Writes out the abbreviations that lead from one record to an earlier one."""
+        at = re.compile(r"(?m)^abbrev (" + W + r") : tie\.[^\n→]*→ tie\.[^\n]*\n\1 (\S+) = \2((?:\.before)*)\n")
+        found = list(at.finditer(self.text))
+        for it in found:
+            self.text = self.text.replace(it[0], "")
+        for it in found * 3:
+            name, ups = it[1], it[3]
+            self.text = re.sub(r"\(" + re.escape(name) + r" (" + W + r"(?:\.[^\s()]+)?)\)", lambda x: x[1] + ups, self.text)
+            self.text = re.sub(r"(?<![\w.'-])" + re.escape(name) + r" (" + W + r"(?:\.[^\s(){}.;,]+)*)", lambda x: x[1] + ups, self.text)
+
     def run(self):
+        self.inner()
         names = self.names
         uses, decls, spec = [], [], None
         for block in blocks(self.text):
@@ -301,6 +364,8 @@ class Turn:
                     todo.append(other)
         cited -= set(invariants) | set(measures)
         given, answers = [], []
+        self.for_loops = for_loops
+        self.loop_of = {x: names.of["loops"][k][0][1] for each in (for_loops, for_measures) for k, x in enumerate(each)}
         for name, block, body in decls:
             if name in for_loops:
                 given.append(self.invariant(block, for_loops.index(name), "invariant"))
@@ -318,7 +383,15 @@ class Turn:
                 text = self.inline(arg, where[i], renamed)
                 if text:
                     answers.append(text)
-        answers = self.lift([x for x in answers if x])
+            elif arg in texts and arg not in labels and i in where:
+                # a helper that answers by itself, maybe more than one goal
+                new, asked = names.needs[where[i]][1], names.asked[where[i]]
+                place = self.helpers[arg][1] if arg in self.helpers else None
+                here = place is None or place == names.place.get(plain(asked))
+                self.used_places.add(place or "")
+                answers.append(f"pub {new} : goal.{new}\n{new} c = {arg} " + ("c.before" if self.walks else "c" if here else f"(goal.at.{new} c).{place}"))
+        answers = [x for x in answers if x]
+        answers = answers if self.walks else self.lift(answers)
         self.finish(uses, given, answers, cited)
 
     def answer(self, name, block, j, renamed):
@@ -354,13 +427,21 @@ class Turn:
 
     def helper(self, block, renamed, loops):
         text = self.words(block, renamed)
+        # a helper whose record has no name in its type
+        it = re.search(r"(?m)^((?:pub |abbrev |unfoldable )*(" + W + r") : )(tie\." + W + r"(?: " + W + r")*) → ((?:.*\n)*?)((?:unfolding.*\n)?)\2 (" + W + ")", text)
+        if it:
+            text = text[: it.start()] + f"{it[1]}({it[6]} : {it[3]}) → {it[4]}{it[5]}{it[2]} {it[6]}" + text[it.end() :]
         for it in list(re.finditer(r"\((" + W + r") : tie\.(" + W + r")((?: " + W + r")*)\)", text)):
             new = self.names.place.get(plain(it[2]))
             if not new:
                 self.left.append(f"no place {it[2]}")
                 continue
-            self.used_places.add(new)
-            text = text.replace(it[0], f"({it[1]} : {new})")
+            if self.walks:
+                loops = [f"goal.the-{'invariant' if x in self.for_loops else 'decreases'}-{self.loop_of[x]}" for x in it[3].split()]
+                text = text.replace(it[0], f"({it[1]} : {' '.join([f'tie.{new}', *loops])})")
+            else:
+                self.used_places.add(new)
+                text = text.replace(it[0], f"({it[1]} : {new})")
             old = next(x for x in self.names.parent if plain(x) == plain(it[2]))
             text = self.paths(text, old, None, it[1])
             self.helpers[re.search(r"(?m)^(?:pub |abbrev |unfoldable )*(" + W + r") :", text)[1]] = (it[1], new, text)
@@ -406,6 +487,9 @@ class Turn:
         return out
 
     def finish(self, uses, given, answers, cited):
+        if not self.walks and ("a helper goes up to another place" in self.left or any("tie." in x for x in given + answers)):
+            self.left, self.walks = [], True
+            return self.run()
         folder = os.path.dirname(self.path)
         kept = []
         for block in uses:
@@ -429,9 +513,11 @@ class Turn:
         if answers:
             lines = list(kept) + [f"use Rattle.{self.module}.Goals as goal"]
             if self.used_places:
-                here = sorted(x for x in self.used_places if any(re.search(r": " + re.escape(x) + r"\)", y) for y in answers))
+                here = sorted(x for x in self.used_places if any(re.search(r"(: |\)\.)" + re.escape(x) + r"(?![\w-])", y) for y in answers))
                 if here:
                     lines.append(f"use Rattle.{self.module}.Goals.{{{', '.join(here)}}}")
+            if self.walks:
+                lines.append(f"use Rattle.{self.module}.Tie as tie")
             if cited:
                 lines.append(f"use Rattle.{self.module}.Invariants.{{{', '.join(sorted(cited))}}}")
             body = "\n".join([*comments, *lines, ""]) + "\n" + "\n\n".join(answers) + "\n"
@@ -455,6 +541,7 @@ def main():
     os.chdir(os.path.join(os.path.dirname(os.path.realpath(__file__)), ".."))
     crate, only = sys.argv[1], sys.argv[2:]
     names = names_of("crates/" + crate)
+    LENT.update(lent())
     for path in sorted(glob.glob(f"crates/{crate}/proofs/**/Proof.antt", recursive=True)):
         of = os.path.dirname(path)[len(f"crates/{crate}/proofs/") :].replace("/", ".")
         if only and of not in only:
@@ -464,7 +551,6 @@ def main():
             print(f"left: {of}: no names ({'a cycle' if '+' in of else 'no function'})")
             continue
         turn = Turn(path, Names(names[key]), f"{crate}.proofs.{of}")
-        turn.note = ""
         try:
             turn.run()
         except Exception as error:
