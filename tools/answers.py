@@ -70,11 +70,10 @@ class Names:
             if isinstance(clause, dict) and clause.get("fields"):
                 self.clauses[it[2][1]] = clause["fields"]
         # what an arm says, by the older step and its path
-        self.arm = {}
-        for arm in of["arms"]:
+        self.arm_at = {}
+        for it, arm in zip(of["places"], of["arms"]):
             for field, step, path in arm[2] if arm else []:
-                if field != "own" and not field.endswith("-own"):
-                    self.arm[(plain(step), tuple(path))] = f"{arm[0]}.{field}"
+                self.arm_at.setdefault(it[0], []).append((plain(step), list(path), f"{arm[0]}.{field}"))
         for loop in of["loops"]:
             self.step.setdefault(plain(loop[0][0]).lower(), set()).add(loop[0][1])
 
@@ -82,6 +81,17 @@ class Names:
         for _ in range(n):
             place = self.parent.get(place)
         return place
+
+    def arm(self, place, tail):
+        """What an arm at this place or above it says under today's name, and how many words of the path that stands for."""
+        at = place
+        while at:
+            fits = [it for it in self.arm_at.get(at, []) if it[0] == plain(tail[0]) and tail[1 : 1 + len(it[1])] == it[1]]
+            if fits:
+                best = max(fits, key=lambda it: len(it[1]))
+                return best[2], 1 + len(best[1])
+            at = self.parent.get(at)
+        return None, 0
 
     def new_step(self, place, word):
         """The new name of the step that is called word at this place or above it."""
@@ -112,7 +122,7 @@ def lent():
 def blocks(text):
     """The declarations of a file, each with the comment above it."""
     out = []
-    for each in re.split(r"\n(?=[^\s\-]|-- )", "\n" + text):
+    for each in re.split(r"\n(?=[^\s\-)\]}]|-- )", "\n" + text):
         if each.strip():
             out.append(each.strip("\n"))
     joined, comment, head = [], [], None
@@ -193,12 +203,14 @@ class Turn:
 
     def paths(self, text, place, need, root="c"):
         """Writes each path from root by today's steps, where root is the record at this place."""
-        roots = {root: place}
+        roots, steps = {root: place}, {}
         out, at = [], 0
         for it in re.finditer(r"(?<![\w.'-])(" + W + r")((?:\.[^\s(){}.;,@\[\]\\]+)*)", text):
             out.append(text[at : it.start()])
             at = it.end()
             head, tail = it[1], [x for x in it[2].split(".") if x]
+            if head in steps and len(tail) > 1:
+                tail = self.named(steps[head], [steps[head], *tail])[1:]
             if head not in roots:
                 tail = [x.replace("-", "_") if x in WORDS else self.names.args.get(x, x) for x in tail]
                 out.append(".".join([head, *tail]))
@@ -226,22 +238,20 @@ class Turn:
                     self.used_places.add(new)
                     out.append(f"(goal.at.{need} {root}).{new}" if need else f"⟦{head}⟧")
                 continue
-            told = next((n for n in range(len(tail), 0, -1) if (plain(tail[0]), tuple(tail[1:n])) in self.names.arm), None)
+            arm, told = self.names.arm(here, tail)
             step = self.names.new_step(here, tail[0])
             if told:
-                tail[:told] = [self.names.arm[(plain(tail[0]), tuple(tail[1:told]))]]
+                tail[:told] = arm.split(".")
             elif step:
                 tail[0] = step
                 if len(tail) > 1:
                     tail[1] = FIELDS.get(tail[1], tail[1])
             if tail[0] in FIELDS and not step and not told:
                 tail[0] = FIELDS[tail[0]]
-            if len(tail) > 2 and tail[1] == "ensures" and tail[0] in self.names.clauses and tail[2].isdigit():
-                tail[2] = self.names.clauses[tail[0]][int(tail[2])]
-            tail = [x.replace("-", "_") if x in WORDS else self.names.args.get(x, x) if k else x for k, x in enumerate(tail)]
-            written = LENT.get(self.names.callee.get(tail[0]), [])
-            if len(tail) > 2 and tail[1] in ("new", "auto") and tail[2].isdigit() and int(tail[2]) < len(written):
-                tail[2] = written[int(tail[2])]
+            tail = self.named(tail[0], tail)
+            bound = re.search(r"let (" + W + r") = $", text[: it.start()])
+            if bound and len(tail) == 1 and re.match(r"\s+in\b", text[it.end() :]):
+                steps[bound[1]] = tail[0]
             if "branch" in tail:
                 self.left.append("a branch in " + (need or "a helper"))
             out.append(".".join([head, *tail]))
@@ -253,6 +263,16 @@ class Turn:
                 text = re.sub(r"let " + it + " = " + root + r" in\s+", "", text)
                 text = re.sub(r"(?<![\w.'-])" + it + r"(?![\w'-])", root, text)
         return text
+
+    def named(self, step, tail):
+        """A path from a step, its numbers as the names of clauses and of lent parameters."""
+        if len(tail) > 2 and tail[1] == "ensures" and step in self.names.clauses and tail[2].isdigit():
+            tail[2] = self.names.clauses[step][int(tail[2])]
+        tail = [x.replace("-", "_") if x in WORDS else self.names.args.get(x, x) if k else x for k, x in enumerate(tail)]
+        written = LENT.get(self.names.callee.get(step), [])
+        if len(tail) > 2 and tail[1] in ("new", "auto") and tail[2].isdigit() and int(tail[2]) < len(written):
+            tail[2] = written[int(tail[2])]
+        return tail
 
     def words(self, text, table):
         return TOKEN.sub(lambda it: table.get(it[0], it[0]), text)
@@ -391,7 +411,7 @@ class Turn:
                 self.used_places.add(place or "")
                 answers.append(f"pub {new} : goal.{new}\n{new} c = {arg} " + ("c.before" if self.walks else "c" if here else f"(goal.at.{new} c).{place}"))
         answers = [x for x in answers if x]
-        answers = answers if self.walks else self.lift(answers)
+        answers = answers if self.walks else self.lift([self.passed(x) for x in answers])
         self.finish(uses, given, answers, cited)
 
     def answer(self, name, block, j, renamed):
@@ -445,6 +465,20 @@ class Turn:
             old = next(x for x in self.names.parent if plain(x) == plain(it[2]))
             text = self.paths(text, old, None, it[1])
             self.helpers[re.search(r"(?m)^(?:pub |abbrev |unfoldable )*(" + W + r") :", text)[1]] = (it[1], new, text)
+        return text
+
+    def passed(self, text):
+        """An answer that passes each helper the record that the helper takes."""
+        it = re.search(r"(?m)^pub (" + W + r") : goal\.", text)
+        if not it:
+            return text
+        asked = next((b for (a, b), (x, y) in zip(self.names.of["asked_at"], self.names.needs) if y == it[1]), None)
+        for name, (root, place, _) in self.helpers.items():
+            at = re.compile(r"(?<![\w.'-])" + re.escape(name) + r"((?: [^\s()]+| \((?!goal\.at)[^()]*\))*?) (\(goal\.at\." + re.escape(it[1]) + r" c\)\." + W + r"|c(?![\w.'-]))")
+            own = "c" if asked == place else f"(goal.at.{it[1]} c).{place}"
+            text = at.sub(lambda x: f"{name}{x[1]} {own}", text)
+            if own != "c" and own in text:
+                self.used_places.add(place)
         return text
 
     def variant(self, name, place, made):

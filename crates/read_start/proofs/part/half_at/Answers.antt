@@ -1,0 +1,20 @@
+use native.Mathlib.Omega.{arith}
+use Prim.Native.Nat.{◌+◌}
+use borrow.Author.Rules.{rules}
+use Rattle.wire.proofs.Laws.{pair_is}
+use Rattle.read_start.proofs.part.half_at.Goals as goal
+
+pub overflow_cast-result : goal.overflow_cast-result
+overflow_cast-result c = omega (arith, c.shared_slice_known-1.given c.args.at)
+
+pub overflow_mul-result : goal.overflow_mul-result
+overflow_mul-result c = omega (arith, c.shared_slice_known-1.given c.args.at)
+
+pub overflow_cast-result-2 : goal.overflow_cast-result-2
+overflow_cast-result-2 c = omega (arith, c.shared_slice_known-2-1.given (c.args.at + 1))
+
+pub overflow_add-result-2 : goal.overflow_add-result-2
+overflow_add-result-2 c = let a = c.args in omega (arith, c.shared_slice_known-1.given a.at, c.shared_slice_known-2-1.given (a.at + 1))
+
+pub returns : goal.returns
+returns c = pair_is c.args.block.now c.args.at (omega arith)

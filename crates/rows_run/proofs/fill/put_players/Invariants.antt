@@ -1,0 +1,13 @@
+use Prim.Native.Nat.{◌-◌, ◌≤◌}
+use native.Mathlib.Omega.{arith}
+use Rattle.wire.specs.Wire.{ranged}
+use Rattle.wire.proofs.Writers.{Left, left_start, range_room, range_step, range_done, room_first, room_second, wrote_length, wrote_then, wrote_byte, wrote_as_byte}
+use Rattle.rows_run.specs.Inner.{player_row}
+use Rattle.rows_run.proofs.fill.put_players.Given as goal
+
+abbrev pub invariant-loop-i : goal.invariant-loop-i
+invariant-loop-i l =
+    (l.i ≤ l.b) × Left l.initial.out 0 (ranged (player_row l.cells l.presence l.first l.rows l.n l.at l.len) l.a (l.b - l.a)) l.out l.p (ranged (player_row l.cells l.presence l.first l.rows l.n l.at l.len) l.i (l.b - l.i))
+
+abbrev pub decreases-loop-i : goal.decreases-loop-i
+decreases-loop-i l = l.b - l.i

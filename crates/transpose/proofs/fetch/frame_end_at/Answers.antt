@@ -1,0 +1,8 @@
+use mathlib.Core.Path.{◌∙◌}
+use borrow.Author.Rules.{rules}
+use Rattle.rows.specs.Rows.{frame_end_of}
+use Rattle.transpose.proofs.Shown.{row_shown}
+use Rattle.transpose.proofs.fetch.frame_end_at.Goals as goal
+
+pub returns : goal.returns
+returns c = c.frame_end_of.ensures ∙ row_shown frame_end_of _ _ _ c.record_at.ensures.is c.version_shown.ensures

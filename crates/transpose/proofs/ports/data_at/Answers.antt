@@ -1,0 +1,14 @@
+use mathlib.Core.Path.{◌∙◌}
+use Rattle.transpose.proofs.Shown.{data_shown}
+use Rattle.transpose.proofs.ports.data_at.Goals as goal
+
+pub pre_at-pre-requires : goal.pre_at-pre-requires
+pre_at-pre-requires c = λ e. (c.requires e).pre
+
+pub post_at-post-requires : goal.post_at-post-requires
+post_at-post-requires c = λ e. (c.requires e).post
+
+pub returns : goal.returns
+returns c =
+    let mark = c.args.mark in
+    (λ i. record { present = mark; pre = c.pre_at-pre.ensures i; post = c.post_at-post.ensures i }) ∙ data_shown _ mark _ _ _ _
