@@ -42,6 +42,7 @@ def plain(name):
 
 
 LENT = {}
+PARAMS = {}
 
 
 class Names:
@@ -547,7 +548,7 @@ def cycle(path, names, module):
     """Turns the Proof.antt of functions that call each other, or of one that calls itself."""
     text, left, note = read(path), [], []
     specs = {it[1]: it.end() for it in re.finditer(r"(" + W + r")-lts\.spec \(\n[^()]*\)", text)}
-    order = {it[1]: it[2] for it in re.finditer(r"use (?:" + W + r"\.)*Lts-(" + W + r") as (" + W + r")-lts\n".replace(W, r"[\w+\-]+"), text)}
+    order = {it[1]: it[2] for it in re.finditer(r"use (?:" + W + r"\.)*Lts-(" + W + r") as (" + W + r")-lts\n", text)}
     given, answers, uses, places, measures = [], [], [], set(), []
     one = len(order) == 1
     for fn, alias in order.items():
@@ -571,7 +572,7 @@ def cycle(path, names, module):
             elif not re.match(r"(abbrev (μ-|" + W + r"-(at|below|Inv-|μ-))|pub \S+-spec : )", body):
                 left.append("a declaration: " + body.split("\n")[0])
         it = re.search(r"(?m)^(μ-" + re.escape(alias) + r") κs a = (.*)", text)
-        params = next(v for k, v in of["params"].items() if k.endswith("::" + fn)) if any(k.endswith("::" + fn) for k in of["params"]) else PARAMS[fn]
+        params = next((v for k, v in of["params"].items() if k.endswith("::" + fn)), None) or PARAMS[fn]
         whole = re.sub(r"\ba((?:\.1)*)\.0", lambda x: "l." + params[x[1].count("1")], it[2])
         measures.append(f"abbrev pub decreases-{fn} : goal.decreases-{fn}\ndecreases-{fn} l = {whole}")
         turn = Part(path, Names(of), module, "\n\n".join(["\n".join(x for x in decls if x.startswith("use"))] + [x for x in decls if not x.startswith("use")] + [f"pub {fn}-spec : x\n{fn}-spec = tie.spec {part}"]), left)
@@ -607,9 +608,6 @@ def typed_steps(of):
     """For each step that says that a slice's elements fit, by today's name, the slice."""
     new = {it[2][0]: it[2][1] for it in of["places"]}
     return {new.get(step, step): name for at in of["typed"] for name, step in at}
-
-
-PARAMS = {}
 
 
 def names_of(crate):
