@@ -42,6 +42,7 @@ def plain(name):
 
 
 LENT = {}
+PARAMS = {}
 
 
 class Names:
@@ -258,10 +259,14 @@ class Turn:
         out.append(text[at:])
         text = "".join(out)
         # a name for what is now the record itself
-        for it in re.findall(r"let (\w+) = " + root + r" in\s+", text):
-            if not re.search(r"λ[^.]*\b" + it + r"\b", text):
-                text = re.sub(r"let " + it + " = " + root + r" in\s+", "", text)
-                text = re.sub(r"(?<![\w.'-])" + it + r"(?![\w'-])", root, text)
+        again = True
+        while again:
+            again = False
+            for it in re.findall(r"let (\w+) = " + root + r" in\s+", text):
+                if not re.search(r"λ[^.]*\b" + it + r"\b", text):
+                    text = re.sub(r"let " + it + " = " + root + r" in\s+", "", text)
+                    text = re.sub(r"(?<![\w.'-])" + it + r"(?![\w'-])", root, text)
+                    again = True
         return text
 
     def named(self, step, tail):
@@ -443,7 +448,8 @@ class Turn:
         if extra and re.search(r"(?<![\w.])" + re.escape(extra) + r"(?![\w'])", it[3]):
             self.left.append(f"{new} uses {extra}")
         whole = self.paths(self.words(it[3], renamed), place, new)
-        return f"pub {new} : goal.{new}\n{self.opens}{new} {it[1]} = {whole}"
+        whole = whole.strip()
+        return f"pub {new} : goal.{new}\n{self.opens}{new} {it[1]} =" + ("\n    " if "\n" in whole else " ") + whole
 
     def helper(self, block, renamed, loops):
         text = self.words(block, renamed)
@@ -562,6 +568,82 @@ class Turn:
             os.remove(self.path)
 
 
+class Part(Turn):
+    """One function of a cycle, as if its part of tie.spec were the whole."""
+
+    def __init__(self, path, names, module, text, left):
+        self.path, self.names, self.module, self.left, self.text, self.note, self.walks = path, names, module, left, text, "", False
+
+    def finish(self, uses, given, answers, cited):
+        self.uses, self.given, self.answers, self.cited = uses, given, answers, cited
+
+
+def cycle(path, names, module):
+    """Turns the Proof.antt of functions that call each other, or of one that calls itself."""
+    text, left, note = read(path), [], []
+    specs = {it[1]: it.end() for it in re.finditer(r"(" + W + r")-lts\.spec \(\n[^()]*\)", text)}
+    order = {it[1]: it[2] for it in re.finditer(r"use (?:" + W + r"\.)*Lts-(" + W + r") as (" + W + r")-lts\n", text)}
+    given, answers, uses, places, measures = [], [], [], set(), []
+    one = len(order) == 1
+    for fn, alias in order.items():
+        of = names[f"Rattle-{module.replace('.proofs.', '-proofs.', 1)}.Lts-{fn}"]
+        prefix = "" if one else fn + "-"
+        part = text[specs[alias] :]
+        ends = re.search(r"\n\s*λ t\. " + W + r"-lts\.spec", part)
+        part = part[: ends.start()].rstrip() if ends else part
+        if ends:
+            part = part[: part.rstrip().rfind(")")] if part.count("(") < part.count(")") else part
+        part = re.sub(r"^\s*\(" + W + r"-at t\)\s+" + W + r"\.Post", "", part)
+        # the measure is told apart from what is required
+        part = re.sub(r"(?<![\w.'-])(c\d*(?:\.before)*)\.requires\.([01])(?!\d)", lambda it: it[1] + (".requires" if it[2] == "1" else ".decreases"), part)
+        decls = []
+        for block in blocks(text[: re.search(r"(?m)^pub \S+-spec : ", text).start()]):
+            body = "\n".join(x for x in block.split("\n") if not x.startswith("--"))
+            if body.startswith(("use ", "pub use ")):
+                decls.append(block)
+            elif re.match(r"abbrev " + re.escape(alias) + r"-(Inv|μ)-", body):
+                decls.append(re.sub(r" : " + W + r"-lts\.", " : tie.", block, count=1))
+            elif not re.match(r"(abbrev (μ-|" + W + r"-(at|below|Inv-|μ-))|pub \S+-spec : )", body):
+                left.append("a declaration: " + body.split("\n")[0])
+        it = re.search(r"(?m)^(μ-" + re.escape(alias) + r") κs a = (.*)", text)
+        params = next((v for k, v in of["params"].items() if k.endswith("::" + fn)), None) or PARAMS[fn]
+        whole = re.sub(r"\ba((?:\.1)*)\.0", lambda x: "l." + params[x[1].count("1")], it[2])
+        measures.append(f"abbrev pub decreases-{fn} : goal.decreases-{fn}\ndecreases-{fn} l = {whole}")
+        turn = Part(path, Names(of), module, "\n\n".join(["\n".join(x for x in decls if x.startswith("use"))] + [x for x in decls if not x.startswith("use")] + [f"pub {fn}-spec : x\n{fn}-spec = tie.spec {part}"]), left)
+        turn.run()
+        if turn.note:
+            note.append(turn.note)
+        uses = turn.uses
+        for each in turn.given:
+            given.append(re.sub(r"(?<![\w.'-])(goal\.)?(invariant|decreases)-loop-", lambda x: f"{x[1] or ''}{x[2]}-{prefix}loop-", each))
+        for each in turn.answers:
+            name = re.match(r"(?:--[^\n]*\n)*pub (" + W + ")", each)
+            name = name[1] if name else "?"
+            each = each.replace(f"pub {name} : goal.{name}", f"pub {prefix}{name} : goal.{prefix}{name}")
+            each = re.sub(r"(?m)^" + re.escape(name) + r" (c|_) =", prefix + name + r" t \1 =", each)
+            each = re.sub(r"\(goal\.at\.(" + W + r") c\)", lambda x: f"(goal.at.{prefix}{x[1]} t c)", each)
+            for step, names_typed in typed_steps(of).items():
+                each = each.replace(f"c.{step}.given", f"c.type_inv.{names_typed}")
+            answers.append(each)
+    folder = os.path.dirname(path)
+    lines = [x for block in uses for x in block.split("\n") if not x.startswith("--") and not re.search(r"(\.Reads|\.Kinds|\.Lts-\S+) as |\.\{(statement|close|In)\}$|PlainCycle", x)]
+    write(os.path.join(folder, "Invariants.antt"), "\n".join([*lines, f"use Rattle.{module}.Given as goal", ""]) + "\n" + "\n\n".join(measures + given) + "\n")
+    if answers:
+        write(os.path.join(folder, "Answers.antt"), "\n".join([*lines, f"use Rattle.{module}.Goals as goal", ""]) + "\n" + "\n\n".join(answers) + "\n")
+    if left:
+        os.rename(path, path + ".txt")
+    else:
+        os.remove(path)
+    if left or note:
+        print(f"left: {module}: {'; '.join(left)} {'; '.join(note)}")
+
+
+def typed_steps(of):
+    """For each step that says that a slice's elements fit, by today's name, the slice."""
+    new = {it[2][0]: it[2][1] for it in of["places"]}
+    return {new.get(step, step): name for at in of["typed"] for name, step in at}
+
+
 def names_of(crate):
     with tempfile.TemporaryDirectory() as folder:
         said = subprocess.run(["rt", "check", "--generated", folder, "--old-names"], cwd=crate, capture_output=True, text=True)
@@ -576,11 +658,18 @@ def main():
     crate, only = sys.argv[1], sys.argv[2:]
     names = names_of("crates/" + crate)
     LENT.update(lent())
+    for of in names.values():
+        if isinstance(of, dict):
+            for each, params in of.get("params", {}).items():
+                PARAMS[each.split("::")[-1]] = params
     for path in sorted(glob.glob(f"crates/{crate}/proofs/**/Proof.antt", recursive=True)):
         of = os.path.dirname(path)[len(f"crates/{crate}/proofs/") :].replace("/", ".")
         if only and of not in only:
             continue
         key = f"Rattle-{crate}-proofs.{of}.Lts"
+        if "+" in of and key not in names:
+            cycle(path, names, f"{crate}.proofs.{of}")
+            continue
         if key not in names:
             print(f"left: {of}: no names ({'a cycle' if '+' in of else 'no function'})")
             continue

@@ -7,12 +7,11 @@ use native.Mathlib.Nat.{zero-add, add-zero, add_comm}
 use native.Mathlib.Omega.{arith}
 use native.Mathlib.Decide.{dec_lt}
 use borrow.Author.Tests.{eq-eqb, ne_eqb, le-leb, lt-leb, lt-ltb, le-ltb}
-use lib.Dec.{eqb, leb, ltb}
 use lib.ListN.{length, length-append}
-use Rattle.wire.specs.Wire.{be, part}
+use Rattle.wire.specs.Wire.{part}
 use Rattle.wire.proofs.Laws.{length_be}
 use Rattle.format.proofs.Refusals.{skip, here, none}
-use Rattle.map.specs.Map.{Value, text, map, Map, empty, entry, text_bytes, value_bytes, body_of}
+use Rattle.map.specs.Map.{Value, map, Map, empty, entry, text_bytes, value_bytes, body_of}
 use Rattle.map.specs.Rows.{cell_of, key_of, plain_of, worse, stored, text_wrong, value_wrong, row_wrong, Grown, Sprout, plain_at, nested_at, value_at, entries_at, below, map_at}
 use Rattle.map.specs.Inner.{cap_of}
 use Rattle.map.proofs.Laws.{Row, row_right, length_part, text_value, number_value, worse_first, worse_second, worse_none, worse_assoc}

@@ -11,7 +11,7 @@ use lib.Dec.{eqb, leb, ltb}
 use lib.ListN.{length, take, drop, length-drop}
 use lib.Seq.{length-take-le}
 use Rattle.wire.specs.Wire.{be, part}
-use Rattle.map.specs.Map.{text_bytes, value_bytes, text}
+use Rattle.map.specs.Map.{text_bytes, value_bytes}
 use Rattle.format.proofs.Versions.{no_way}
 use Rattle.format.proofs.Refusals.{passed}
 use Rattle.map.specs.Rows.{cell_of, there, key_of, plain_of, worse, stored, text_wrong, value_wrong, row_wrong}

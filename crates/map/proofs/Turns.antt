@@ -11,7 +11,7 @@ use borrow.Author.Tests.{eq-eqb, ne_eqb, eqb-true, eqb-false, lt-ltb, le-ltb}
 use lib.Dec.{eqb}
 use lib.ListN.{length}
 use Rattle.map.specs.Map.{text_bytes, value_bytes, body_of, empty}
-use Rattle.map.specs.Rows.{cell_of, key_of, plain_of, there, row_wrong, Grown, Sprout, grown, plain_at, nested_at, value_at, entries_at, below, map_at}
+use Rattle.map.specs.Rows.{cell_of, key_of, plain_of, row_wrong, Grown, Sprout, grown, plain_at, nested_at, value_at, entries_at, below, map_at}
 use Rattle.map.specs.Inner.{inside}
 use Rattle.wire.proofs.Writers.{Left}
 use Rattle.map.proofs.Laws.{worse_none, inside_is}

@@ -1,18 +1,15 @@
 -- The public reader's answers, one law a return.
 -- Assumes nothing.
-use mathlib.Core.Path.{◌≡◌, refl, sym, ap, ap₂, ◌∙◌}
-use mathlib.Core.Bool.{Bool, true, false, cond}
+use mathlib.Core.Path.{◌≡◌, refl, sym, ap, ◌∙◌}
 use mathlib.Core.List.{List, [], ◌∷◌}
-use Prim.Native.Nat.{ℕ, ◌+◌, ◌*◌, ◌≤◌, ◌<◌}
-use native.Mathlib.Nat.{zero-add}
+use Prim.Native.Nat.{ℕ, ◌*◌, ◌≤◌, ◌<◌}
 use native.Mathlib.Omega.{arith}
-use borrow.Author.Tests.{eq-eqb, ne_eqb, lt-ltb, le-ltb, ltb-false}
-use lib.Dec.{eqb, ltb}
-use lib.ListN.{length, get_or}
+use borrow.Author.Tests.{eq-eqb, ne_eqb, lt-ltb, le-ltb}
+use lib.Dec.{ltb}
+use lib.ListN.{length}
 use Rattle.wire.specs.Wire.{splice, Room, Wrote}
 use Rattle.format.specs.Refusal.{refuse, lowest}
-use Rattle.format.proofs.Refusals.{skip, here, none, passed}
-use Rattle.map.specs.Map.{Map, empty, entry}
+use Rattle.format.proofs.Refusals.{skip, here, none}
 use Rattle.map_reader.specs.Read.{Seen, stopped, other_wrong, map_read_at}
 use Rattle.map_reader.specs.Back.{count_of, entry_count, map_rows}
 use Rattle.map_reader.specs.Inner.{Whole}

@@ -2,23 +2,22 @@
 -- Assumes nothing.
 use mathlib.Core.Path.{◌≡◌, refl, sym, ap, ap₂, ◌∙◌}
 use mathlib.Core.List.{List, [], ◌∷◌, ◌++◌, append_assoc, append-nil}
-use Prim.Native.Nat.{ℕ, zero, suc, ◌+◌, ◌-◌, ◌*◌, ◌≤◌, ◌<◌}
+use Prim.Native.Nat.{ℕ, suc, ◌+◌, ◌-◌, ◌*◌, ◌≤◌, ◌<◌}
 use native.Mathlib.Nat.{add-zero, zero-add}
 use native.Mathlib.Omega.{arith}
-use lib.Dec.{lit<}
-use native.Mathlib.Decide.{dec_lt, ℕ_discrete}
-use borrow.Author.Tests.{eqb-false, ne_eqb}
+use native.Mathlib.Decide.{ℕ_discrete}
+use borrow.Author.Tests.{ne_eqb}
 use lib.ListN.{length, drop, get_or, set, length-append, length-drop}
-use Rattle.wire.specs.Wire.{be, part, splice, number as number_of, Room, Wrote}
-use Rattle.wire.proofs.Laws.{splice_cons, splice_nil, splice_behind}
-use Rattle.wire.proofs.Writers.{Left, left_step, left_room, left_done, left_start, wrote_length}
-use Rattle.map.specs.Map.{Value, text, number, map, Map, empty, entry, text_bytes, value_bytes, body_of, fits_value, fits}
-use Rattle.map_reader.specs.Read.{Bytes, text_stop, text_of, Seen, SeenValue, refused, stopped, closed_map, value_in, joined, map_entries_in, inside, map_read_at, value_read_at}
+use Rattle.wire.specs.Wire.{part, splice, number as number_of, Room, Wrote}
+use Rattle.wire.proofs.Laws.{splice_behind}
+use Rattle.wire.proofs.Writers.{Left, left_step, left_room, left_done, left_start}
+use Rattle.map.specs.Map.{Value, text, number, map, Map, empty, entry, text_bytes, value_bytes, fits_value}
+use Rattle.map_reader.specs.Read.{Bytes, text_stop, text_of, Seen, SeenValue, value_in, map_read_at, value_read_at}
 use Rattle.map_reader.specs.Back.{count_of, kind_of, fourth_of, fifth_of, entry_row, inner_rows, map_rows}
 use Rattle.map.proofs.Judging.{length_text}
-use Rattle.map_reader.proofs.Places.{Stands, there}
+use Rattle.map_reader.proofs.Places.{Stands}
 use Rattle.map_reader.proofs.Sound.{ValueAt, value_sound, inside_sound}
-use Rattle.map_reader.proofs.Passing.{TextHere, text_here, NumberHere, number_here, Deep, deep_of, deep_else, stop_as, Passing, rest_of, passing_start, Here, here_of, none_left, passing_done}
+use Rattle.map_reader.proofs.Passing.{text_here, number_here, Deep, deep_else, stop_as, Passing, rest_of, passing_start, Here, here_of, none_left, passing_done}
 
 -- five cells in a row
 pub wrote_5 : (xs : List ℕ) (at a b c d e : ℕ) → Wrote xs (set (set (set (set (set xs at a) (at + 1) b) (at + 2) c) (at + 3) d) (at + 4) e) at (at + 5) (a ∷ b ∷ c ∷ d ∷ e ∷ [])

@@ -1,14 +1,14 @@
 -- The reader's loop: what is to be read from p on is what was to be read from `at` on.
 -- Assumes nothing.
-use mathlib.Core.Path.{◌≡◌, refl, sym, ap, ap₂, ◌∙◌}
+use mathlib.Core.Path.{◌≡◌, refl, sym, ap, ◌∙◌}
 use mathlib.Core.Bool.{Bool, true, false}
 use mathlib.Core.List.{List, [], ◌∷◌, ◌++◌}
-use Prim.Native.Nat.{ℕ, zero, suc, ◌+◌, ◌-◌, ◌≤◌, ◌<◌}
+use Prim.Native.Nat.{ℕ, zero, suc, ◌+◌, ◌≤◌, ◌<◌}
 use native.Mathlib.Nat.{add-zero, zero-add}
 use native.Mathlib.Omega.{arith}
 use lib.ListN.{length, get_or}
-use Rattle.map.specs.Map.{Value, text, number, map, Map, empty, entry, has}
-use Rattle.map_reader.specs.Read.{text_stop, text_of, Seen, SeenValue, refused, stopped, joined, map_entries_in, inside, map_read_at, value_read_at}
+use Rattle.map.specs.Map.{Value, text, number, map, Map, empty, entry}
+use Rattle.map_reader.specs.Read.{text_stop, text_of, Seen, SeenValue, refused, map_entries_in, inside, map_read_at, value_read_at}
 use Rattle.map_reader.specs.Back.{size_value, entry_count}
 use Rattle.map_reader.specs.Inner.{Run, keys_from, Ran, Repeated}
 use Rattle.map_reader.specs.declared.read.Read.{Read}

@@ -1,6 +1,6 @@
 -- Entries that were read, passed one by one: what stands at a value's place, and the entries behind it.
 -- Assumes nothing.
-use mathlib.Core.Path.{◌≡◌, refl, sym, ap, ap₂, ◌∙◌}
+use mathlib.Core.Path.{◌≡◌, refl, sym, ap, ◌∙◌}
 use mathlib.Core.Bool.{Bool, true, false}
 use mathlib.Core.List.{List, [], ◌∷◌, ◌++◌}
 use Prim.Native.Nat.{ℕ, zero, suc, ◌+◌, ◌-◌, ◌≤◌, ◌<◌}
@@ -10,9 +10,9 @@ use borrow.Author.Tests.{eqb-false}
 use lib.Dec.{lit<}
 use lib.ListN.{length, get_or}
 use Rattle.wire.specs.Wire.{part, number as number_of}
-use Rattle.map.specs.Map.{Value, text, number, map, Map, empty, entry, has}
+use Rattle.map.specs.Map.{text, number, map, empty, has}
 use Rattle.map.proofs.Laws.{length_part}
-use Rattle.map_reader.specs.Read.{Bytes, text_stop, text_of, Seen, SeenValue, refused, stopped, closed_map, value_in, joined, map_entries_in, inside, map_read_at, value_read_at}
+use Rattle.map_reader.specs.Read.{Bytes, text_stop, text_of, Seen, SeenValue, joined, map_entries_in, inside, map_read_at, value_read_at}
 use Rattle.map_reader.proofs.Places.{there}
 use Rattle.map_reader.proofs.Steps.{value_text, value_no_text, value_number, value_no_number, value_none, map_here, map_deep, closed_refused, closed_open, closed_yes, text_some, other_some, entries_none, entries_cut, entries_twice, entries_bad, entries_more}
 use Rattle.map_reader.proofs.Sound.{stop_yes, bad_value, bad_map, ValueAt, TextAt, text_sound, value_sound, inside_sound}

@@ -2,15 +2,15 @@
 -- Assumes nothing.
 use mathlib.Core.Path.{◌≡◌, refl, sym, ap, ap₂, ◌∙◌}
 use mathlib.Core.List.{List, [], ◌∷◌, ◌++◌, append_assoc}
-use Prim.Native.Nat.{ℕ, zero, suc, ◌+◌, ◌-◌, ◌*◌, ◌/◌, ◌%◌, ◌^◌, ◌≤◌, ◌<◌}
-use native.Mathlib.Nat.{add-zero, zero-add, zero-mul, mul-one, mul_assoc, add-mul, add_assoc, pow-succ', le_trans}
+use Prim.Native.Nat.{ℕ, suc, ◌+◌, ◌-◌, ◌*◌, ◌/◌, ◌%◌, ◌^◌, ◌≤◌, ◌<◌}
+use native.Mathlib.Nat.{add-zero, zero-add, zero-mul, mul-one, mul_assoc, add-mul, add_assoc, pow-succ'}
 use native.Mathlib.Numerals.{add-one}
 use native.Mathlib.Omega.{arith}
 use native.Mathlib.Decide.{dec_lt}
 use lib.Arith.{digits_div, digits_mod, digits_lt}
 use lib.Dec.{lit<}
 use lib.ListN.{length, take, drop, get_or, length-append, length-drop, length-take, take-append-drop, get_or-eq_default}
-use lib.Seq.{drop-cons, drop-drop, drop-append_seam, take-append_seam, length-take-le, get_or-drop, get_or-take}
+use lib.Seq.{drop-cons, drop-drop, drop-append_seam, take-append_seam, get_or-drop, get_or-take}
 use Rattle.wire.specs.Wire.{be, more, part, number as number_of}
 use Rattle.map_reader.specs.Read.{Bytes}
 

@@ -1,19 +1,17 @@
 -- Whatever is read is the body of a map that fits, and the reader stops where no entry begins.
 -- Assumes nothing.
-use mathlib.Core.Path.{◌≡◌, refl, sym, ap, ap₂, ◌∙◌, subst}
-use mathlib.Core.Bool.{Bool, true, false, cond}
-use mathlib.Core.List.{List, [], ◌∷◌, ◌++◌, append-nil}
-use Prim.Native.Nat.{ℕ, zero, suc, ◌+◌, ◌-◌, ◌^◌, ◌≤◌, ◌<◌}
-use native.Mathlib.Nat.{add-zero}
+use mathlib.Core.Path.{◌≡◌, refl, sym, ap, ◌∙◌}
+use mathlib.Core.Bool.{Bool, true, false}
+use mathlib.Core.List.{List, [], ◌∷◌, ◌++◌}
+use Prim.Native.Nat.{ℕ, zero, suc, ◌+◌, ◌≤◌, ◌<◌}
 use native.Mathlib.Omega.{arith}
 use native.Mathlib.Decide.{dec_lt, ℕ_discrete}
-use borrow.Author.Tests.{eqb-true, eqb-false, leb-true, eq-eqb, ne_eqb, lt-leb}
+use borrow.Author.Tests.{eqb-true, eqb-false, leb-true}
 use lib.Dec.{eqb, leb, lit<}
-use lib.ListN.{length, drop, get_or, length-append}
-use lib.Seq.{drop-length}
-use Rattle.wire.specs.Wire.{be, part, number as number_of}
-use Rattle.map.specs.Map.{Value, text, number, map, Map, empty, entry, text_bytes, value_bytes, body_of, fits_value, fits, has, twice_value, twice_in}
-use Rattle.map_reader.specs.Read.{Bytes, text_stop, text_of, other_wrong, Seen, SeenValue, refused, stopped, closed_map, value_in, joined, map_entries_in, inside, map_read_at, value_read_at}
+use lib.ListN.{length, drop, get_or}
+use Rattle.wire.specs.Wire.{part}
+use Rattle.map.specs.Map.{map, Map, text_bytes, value_bytes, body_of, fits_value, fits, has, twice_value, twice_in}
+use Rattle.map_reader.specs.Read.{Bytes, text_stop, text_of, Seen, SeenValue, refused, stopped, closed_map, joined, map_entries_in, inside, map_read_at, value_read_at}
 use Rattle.map.proofs.Laws.{length_part}
 use Rattle.map_reader.proofs.Places.{Stands, stands_cons, stands_part, stands_append, there, be_number, part_bytes}
 use Rattle.map_reader.proofs.Steps.{value_text, value_no_text, value_number, value_no_number, value_none, value_map, closed_refused, closed_open, closed_yes, text_some, other_some, entries_none, entries_cut, entries_twice, entries_bad, entries_more}

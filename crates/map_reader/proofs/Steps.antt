@@ -7,17 +7,16 @@ use Prim.Native.Nat.{ℕ, zero, suc, ◌+◌, ◌-◌, ◌*◌, ◌^◌, ◌≤�
 use native.Mathlib.Nat.{add-zero}
 use native.Mathlib.Numerals.{sub-one}
 use native.Mathlib.Omega.{arith}
-use native.Mathlib.Decide.{dec_lt}
 use borrow.Author.Tests.{eq-eqb, ne_eqb, le-leb, lt-leb, lt-ltb, le-ltb}
 use lib.Dec.{eqb, leb, ltb}
 use lib.ListN.{length, get_or}
 use Rattle.wire.specs.Wire.{part, more, number as number_of}
 use Rattle.format.specs.Refusal.{one_of}
-use Rattle.format.proofs.Tests.{one_here, one_skip, one_none, one_last}
-use Rattle.map.specs.Map.{Value, text, number, map, Map, empty, entry, has}
+use Rattle.format.proofs.Tests.{one_skip, one_none, one_last}
+use Rattle.map.specs.Map.{text, number, map, empty, has}
 use Rattle.map.proofs.Laws.{length_part}
 use Rattle.map.proofs.KeyLaws.{part_cons, part_none}
-use Rattle.map_reader.specs.Read.{Bytes, text_stop, text_of, says, says_more, other_wrong, no_text_refusal, Seen, SeenValue, refused, stopped, closed_map, value_in, key_wrong, joined, map_entries_in, inside, map_read_at, value_read_at}
+use Rattle.map_reader.specs.Read.{Bytes, text_stop, text_of, says, says_more, other_wrong, no_text_refusal, Seen, refused, stopped, closed_map, value_in, key_wrong, joined, map_entries_in, inside, map_read_at, value_read_at}
 use Rattle.map_reader.proofs.Places.{more_is, part_bytes}
 
 -- a text

@@ -1,4 +1,3 @@
-use borrow.Author.Rules.{rules}
 use native.Mathlib.Omega.{arith}
 use Rattle.map.proofs.Judging.{text_size, number_size}
 use Rattle.map.proofs.judge.plain_size.Goals as goal

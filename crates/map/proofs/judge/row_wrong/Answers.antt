@@ -1,4 +1,3 @@
-use borrow.Author.Rules.{rules}
 use Rattle.map.proofs.Judging.{row_as}
 use Rattle.map.proofs.judge.row_wrong.Goals as goal
 

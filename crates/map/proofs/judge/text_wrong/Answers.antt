@@ -1,4 +1,3 @@
-use borrow.Author.Rules.{rules}
 use Rattle.map.proofs.Judging.{text_long, text_away, text_fine}
 use Rattle.map.proofs.judge.text_wrong.Goals as goal
 

@@ -1,4 +1,3 @@
-use borrow.Author.Rules.{rules}
 use Rattle.map.proofs.Judging.{wrong_text, wrong_none, wrong_kind}
 use Rattle.map.proofs.judge.value_wrong.Goals as goal
 

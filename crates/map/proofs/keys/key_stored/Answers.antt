@@ -1,4 +1,3 @@
-use borrow.Author.Rules.{rules}
 use Rattle.map.proofs.KeyLaws.{stored_as}
 use Rattle.map.proofs.keys.key_stored.Goals as goal
 

@@ -1,7 +1,6 @@
 use mathlib.Core.Path.{sym, ◌∙◌}
 use native.Mathlib.Omega.{arith}
-use Prim.Native.Nat.{◌-◌}
-use Rattle.map.proofs.KeyLaws.{Looking, looking_start, looking_away, looking_done, looking_same, looking_more, after_is}
+use Rattle.map.proofs.KeyLaws.{looking_start, looking_away, looking_done, looking_same, looking_more, after_is}
 use Rattle.map.proofs.keys.repeats.Goals as goal
 
 pub key_stored-requires : goal.key_stored-requires
@@ -20,7 +19,7 @@ pub loop-q-smaller : goal.loop-q-smaller
 loop-q-smaller c = let far = c.skip_rows-q.ensures.2 (omega arith) (omega (arith, c.loop-q-test.true, c.requires)) in omega (arith, far, c.loop-q-test.true)
 
 pub loop-q-preserved : goal.loop-q-preserved
-loop-q-preserved c =     let c3 = c in
+loop-q-preserved c = let c3 = c in
     let c9 = c3 in
     looking_more c3.key_stored.ensures c3.if-key_stored.true c3.loop-q.invariant c3.loop-q-test.true
     c.same_key.ensures c.if-same_key.false (after_is _ _ _ _ (omega (arith, c3.loop-q-test.true, c9.requires)) c.skip_rows-q.ensures.0)

@@ -1,7 +1,5 @@
-use mathlib.Core.Path.{sym, ◌∙◌}
-use native.Mathlib.Omega.{arith}
 use Prim.Native.Nat.{◌-◌}
-use Rattle.map.proofs.KeyLaws.{Looking, looking_start, looking_away, looking_done, looking_same, looking_more, after_is}
+use Rattle.map.proofs.KeyLaws.{Looking}
 use Rattle.map.proofs.keys.repeats.Given as goal
 
 abbrev pub invariant-loop-q : goal.invariant-loop-q

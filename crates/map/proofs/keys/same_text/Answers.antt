@@ -1,8 +1,5 @@
-use mathlib.Core.Path.{◌≡◌, refl, ◌∙◌}
+use mathlib.Core.Path.{refl, ◌∙◌}
 use native.Mathlib.Omega.{arith}
-use Prim.Native.Nat.{◌+◌, ◌≤◌}
-use Rattle.wire.specs.Wire.{part}
-use Rattle.map.specs.Map.{same}
 use Rattle.map.proofs.KeyLaws.{parts_start, lengths_other, parts_done, parts_other, parts_more}
 use Rattle.map.proofs.keys.same_text.Goals as goal
 
@@ -19,7 +16,7 @@ pub bounds-texts-b : goal.bounds-texts-b
 bounds-texts-b c = omega (arith, c.loop-left.invariant.1, c.requires.1, c.loop-left-test.true, c.if-m-n.false)
 
 pub returns-then-texts-a : goal.returns-then-texts-a
-returns-then-texts-a c =     let c6 = c in
+returns-then-texts-a c = let c6 = c in
     let l = c.loop-left.invariant in parts_other _ _ _ _ c.loop-left-test.true (omega (arith, l.0, c6.requires.0)) (omega (arith, l.1, c6.requires.1)) c.if-texts-a.true ∙ l.2
 
 pub overflow_add-a : goal.overflow_add-a
@@ -35,7 +32,7 @@ pub loop-left-smaller : goal.loop-left-smaller
 loop-left-smaller c = omega (arith, c.loop-left-test.true)
 
 pub loop-left-preserved : goal.loop-left-preserved
-loop-left-preserved c =     let c3 = c in
+loop-left-preserved c = let c3 = c in
     let c6 = c3 in
     let l = c3.loop-left.invariant in (omega (arith, l.0, c3.loop-left-test.true), omega (arith, l.1, c3.loop-left-test.true), parts_more _ _ _ _ c3.loop-left-test.true (omega (arith, l.0, c6.requires.0)) (omega (arith, l.1, c6.requires.1)) c.if-texts-a.false ∙ l.2, omega (arith, l.3))
 

@@ -1,9 +1,7 @@
-use mathlib.Core.Path.{◌≡◌, refl, ◌∙◌}
-use native.Mathlib.Omega.{arith}
+use mathlib.Core.Path.{◌≡◌}
 use Prim.Native.Nat.{◌+◌, ◌≤◌}
 use Rattle.wire.specs.Wire.{part}
 use Rattle.map.specs.Map.{same}
-use Rattle.map.proofs.KeyLaws.{parts_start, lengths_other, parts_done, parts_other, parts_more}
 use Rattle.map.proofs.keys.same_text.Given as goal
 
 abbrev pub invariant-loop-left : goal.invariant-loop-left

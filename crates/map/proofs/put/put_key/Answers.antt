@@ -1,6 +1,5 @@
 use mathlib.Core.Path.{sym}
 use native.Mathlib.Omega.{arith}
-use borrow.Author.Rules.{rules}
 use Rattle.wire.proofs.Writers.{room_as, wrote_as}
 use Rattle.map.proofs.Laws.{row_of, key_at_lem}
 use Rattle.map.proofs.put.put_key.Goals as goal

@@ -1,7 +1,6 @@
 -- `map::put::put_plain` meets its contract: a text, or a number.
 use mathlib.Core.Path.{sym, ◌∙◌}
 use native.Mathlib.Omega.{arith}
-use borrow.Author.Rules.{rules}
 use Rattle.wire.proofs.Writers.{room_as, room_first, room_second, wrote_as, wrote_then}
 use Rattle.map.proofs.Laws.{row_of, text_value, number_value}
 use mathlib.Core.Path.{refl}

@@ -1,6 +1,5 @@
 -- `map::put::put_text` meets its contract: the mark, the length, the bytes.
 use mathlib.Core.Path.{sym}
-use borrow.Author.Rules.{rules}
 use Rattle.wire.proofs.Writers.{room_as, room_first, room_second, wrote_as, wrote_then}
 use Rattle.map.proofs.Laws.{text_parts}
 use Rattle.map.proofs.put.put_text.Goals as goal

@@ -1,5 +1,4 @@
 -- `map::write::write_map` meets its contract: judged first, then written.
-use borrow.Author.Rules.{rules}
 use Rattle.map.proofs.Outcomes.{outcome_no, outcome_yes, put_ok}
 use Rattle.map.proofs.write.write_map.Goals as goal
 
