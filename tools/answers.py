@@ -210,6 +210,11 @@ class Turn:
             out.append(text[at : it.start()])
             at = it.end()
             head, tail = it[1], [x for x in it[2].split(".") if x]
+            if text[: it.start()].endswith("let "):
+                roots = {k: v for k, v in roots.items() if k != head or k == root}
+                steps.pop(head, None)
+                out.append(it[0])
+                continue
             if head in steps and len(tail) > 1:
                 tail = self.named(steps[head], [steps[head], *tail])[1:]
             if head not in roots:

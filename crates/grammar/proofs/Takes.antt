@@ -57,9 +57,9 @@ module _ (v : Version) (o : Order) (family : Family) (s : State) (id : ℕ) (byt
   unfolding allowed
   may h n q = rw (h, eq-eqb (length (row_event family id bytes).payload) (record_size family v) (size_in family id bytes ∙ n), q)
 
-in_frame : (s : State) (rank : ℕ) (e : Ev) → s.rank ≤ rank → s.id ≡ id_in e → in_frame s rank (said_by e) ≡ true
+in_frame_lem : (s : State) (rank : ℕ) (e : Ev) → s.rank ≤ rank → s.id ≡ id_in e → in_frame s rank (said_by e) ≡ true
 unfolding in_frame
-in_frame s rank e h k = rw (le-leb s.rank rank h, eq-eqb s.id (id_in e) k)
+in_frame_lem s rank e h k = rw (le-leb s.rank rank h, eq-eqb s.id (id_in e) k)
 
 -- ---- rows of the stage and items
 
@@ -75,7 +75,7 @@ module _ (v : Version) (o : Order) (family : Family) (plain : (s : State) (e : E
       let i = id_in_lem family id b small in
       let k = keeps due (slot_said (said_by e)) in
       moved v o (state r id due) family id b _
-      (may v o family (state r id due) id b h.0.has (omega (arith, h.0.size, head)) (plain (state r id due) e ∙ in_frame (state r id due) (rank_of family) e l (sym i)))
+      (may v o family (state r id due) id b h.0.has (omega (arith, h.0.size, head)) (plain (state r id due) e ∙ in_frame_lem (state r id due) (rank_of family) e l (sym i)))
       ∙ ap (λ (s : State). rest v o s (map (row_event family id) bs ++ t)) (λ z. state (rank_of family) (i z) (k z))
       ∙ rows_run_lem go bs h.1 (rank_of family) (omega arith)
 
@@ -133,7 +133,7 @@ module _ (v : Version) (o : Order) (id : ℕ) (small : id < 2 ^ 32) (x : Option 
   pres_run t [] due h q go r l = ap (λ (ks : List ℕ). rest v o (state r id ks) t) (sym (append-nil due)) ∙ go r l
   pres_run t (p ∷ ps) due h q go r l =
       pre_run (state r id due) p _ h.0
-      (ap (λ (b : Bool). b || (not (has_family v FrameStart) && closed v (state r id due))) (in_frame (state r id due) 2 (pre_event id p) l (sym (id_in_lem Pre id (p.port ∷ p.follower ∷ p.pre) small))))
+      (ap (λ (b : Bool). b || (not (has_family v FrameStart) && closed v (state r id due))) (in_frame_lem (state r id due) 2 (pre_event id p) l (sym (id_in_lem Pre id (p.port ∷ p.follower ∷ p.pre) small))))
       q.0
       ∙ pres_run t ps (due ++ (slot_of p ∷ [])) h.1 q.1
       (λ r l. ap (λ (ks : List ℕ). rest v o (state r id ks) t) (append_assoc due (slot_of p ∷ []) (map slot_of ps)) ∙ go r l) 2 (omega arith)
@@ -148,7 +148,7 @@ module _ (v : Version) (o : Order) (id : ℕ) (small : id < 2 ^ 32) (x : Option 
       let i = id_in_lem Post id bytes small in
       moved v o s Post id bytes _
       (may v o Post s id bytes (has_post v) (omega (arith, h.0.post))
-      (rw (in_frame s 7 (post_event id p) l (sym i), player_post id p h.0.port h.0.follower) (eq-eqb (slot_of p) (slot_said (said_by (post_event id p))) (sym (slot_post id p)))))
+      (rw (in_frame_lem s 7 (post_event id p) l (sym i), player_post id p h.0.port h.0.follower) (eq-eqb (slot_of p) (slot_said (said_by (post_event id p))) (sym (slot_post id p)))))
       ∙ ap (λ (s : State). rest v o s (map (post_event id) ps ++ t)) (λ z. state 7 (i z) (map slot_of ps))
       ∙ posts_run t ps h.1 go 7 (omega arith)
 
@@ -181,7 +181,7 @@ module _ (v : Version) (o : Order) (f : Frame) (h : GoodFrame v o f) (t : List E
           let i = id_in_lem FrameEnd f.id f.end h.id in
           let s = state r f.id [] in
           moved v o s FrameEnd f.id f.end t
-          (may v o FrameEnd s f.id f.end e (omega (arith, h.end)) (rw (in_frame s 7 (row_event FrameEnd f.id f.end) l (sym i))))
+          (may v o FrameEnd s f.id f.end e (omega (arith, h.end)) (rw (in_frame_lem s 7 (row_event FrameEnd f.id f.end) l (sym i))))
           ∙ ap (λ (s : State). rest v o s t) (λ z. state 8 (i z) [])
           ∙ next _ (closed_last v f.id)
 

@@ -1,0 +1,14 @@
+use mathlib.Core.Path.{sym, ◌∙◌}
+use Rattle.read_places.proofs.Scans.{when_on, when_off}
+use borrow.Author.Rules.{rules}
+use Rattle.read_places.proofs.alike.note_steps.Reads as reads
+use Rattle.read_places.proofs.alike.note_steps.Lts as lts
+use Rattle.read_event.proofs.alike.put_steps.Reads as put-steps-reads
+use Rattle.read_places.proofs.scan.is_players.Reads as is-players-reads
+use Rattle.read_places.proofs.alike.note_steps.Goals as goal
+
+pub returns-then-is_players : goal.returns-then-is_players
+returns-then-is_players c = let e = sym c.is_players.ensures ∙ c.if-is_players.true in (when_on _ _ _ e, c.put_steps.ensures ∙ when_on _ _ _ e)
+
+pub returns : goal.returns
+returns c = let e = sym c.is_players.ensures ∙ c.if-is_players.false in (when_off _ _ _ e, when_off _ _ _ e)
