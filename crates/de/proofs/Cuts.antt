@@ -21,7 +21,7 @@ use Rattle.head.specs.declared.Step.{Step}
 use Rattle.head.specs.declared.Step.TheVariants.{Event, Ends, Cut, Refused}
 use Rattle.head.proofs.Steps.{unlisted, fits, overruns, at_end, inside}
 use Rattle.head.proofs.Written.{listed_span, headed, top, length_top, headed_top, length_file, stop_is, present_is, stop_all, never_whole, entries_are, step_is, take_past}
-use Rattle.de.specs.Walk.{Run, after, run, answer_at, walk_of}
+use Rattle.de.specs.Walk.{Run, run, answer_at, walk_of}
 use Rattle.de.specs.Cut.{wholly, event_at, events_read, zeroed}
 use Rattle.de.specs.declared.Walked.TheVariants.{Done}
 use Rattle.de.specs.declared.Walked.TheVariants as walked

@@ -49,6 +49,13 @@ kept Ends h e = omega arith
 kept Cut h e = omega arith
 kept (Refused number offset) h e = omega arith
 
+-- by what an arm after the one for an event says
+pub no_event : (s : Step) → ((code at payload len next : ℕ) → s ≡ Event code at payload len next → ⊥) → (step_numbers s).kind ≡ 0 → ⊥
+no_event (Event code at payload len next) h e = h code at payload len next refl
+no_event Ends h e = omega arith
+no_event Cut h e = omega arith
+no_event (Refused number offset) h e = omega arith
+
 -- a refused head is the answer of the whole walk
 pub refused_walk : (f : List ℕ) (number offset : ℕ) → number ≡ head_refusal f → offset ≡ head_offset (head_refusal f) → (number ≡ 0 → ⊥) → walked.Refused number offset ≡ walk_of f
 unfolding walk_of

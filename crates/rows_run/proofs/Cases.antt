@@ -10,7 +10,6 @@ use Rattle.format.specs.declared.version.Version.{Version}
 use Rattle.game.specs.Stores.{Lent, cells, offsets, lent}
 use Rattle.game.specs.declared.frames.PortColumn.{PortColumn}
 use Rattle.game.specs.declared.frames.Frames.{Frames}
-use Rattle.frames.specs.Judge.{refusals}
 use Rattle.players.specs.Presence.{marked}
 use Rattle.transpose.specs.Records.{mark_at}
 use Rattle.transpose.specs.Answers.{unless_refused}

@@ -1,4 +1,3 @@
-use borrow.Author.Rules.{rules}
 use Rattle.de.proofs.Runs.{cut_answer}
 use Rattle.de.proofs.finish.Goals as goal
 

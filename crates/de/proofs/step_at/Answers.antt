@@ -1,4 +1,3 @@
-use borrow.Author.Rules.{rules}
 use mathlib.Core.Path.{refl, sym, ap, ◌∙◌}
 use Rattle.head.specs.Numbers.{step_numbers}
 use Rattle.head.proofs.Steps.{refused_step}

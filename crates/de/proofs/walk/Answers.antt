@@ -1,4 +1,3 @@
-use borrow.Author.Rules.{rules}
 use mathlib.Core.Path.{refl, sym, ap, ◌∙◌}
 use Rattle.de.specs.Numbers.{walk_numbers}
 use Rattle.de.proofs.Runs.{refused_walk, walk_is}

@@ -2,11 +2,8 @@ use Prim.Native.Nat.{◌≤◌, ◌<◌, ◌-◌, ◌+◌, suc}
 use mathlib.Core.Path.{◌≡◌, sym, ◌∙◌}
 use native.Mathlib.Nat.{sub-zero, zero-add, add-zero}
 use native.Mathlib.Omega.{arith}
-use borrow.Author.Rules.{rules}
 use lib.ListN.{length}
-use Rattle.de.specs.Walk.{run, run_of}
-use Rattle.de.specs.Inner.{stopped}
-use Rattle.de.proofs.Runs.{counted, run_event, run_stop, kept}
+use Rattle.de.proofs.Runs.{run_event, run_stop, no_event}
 use Rattle.de.proofs.walk_events.Goals as goal
 use Rattle.de.proofs.walk_events.Goals.{In-Event}
 
@@ -29,7 +26,7 @@ loop-next-preserved c =
 
 pub returns : goal.returns
 returns c =
-    let e = run_stop (length c.args.file.now - c.loop-next.events) _ _ _ (kept c.in_data-last.result c.in_default.in_default-own.keys2) (sym c.in_data-last.ensures.0) in
+    let e = run_stop (length c.args.file.now - c.loop-next.events) _ _ _ (no_event c.in_data-last.result c.in_default.not-Event) (sym c.in_data-last.ensures.0) in
     (sym (c.loop-next.invariant.2 ∙ rw (e, add-zero)), omega arith)
 
 pub in_data-last-requires : goal.in_data-last-requires

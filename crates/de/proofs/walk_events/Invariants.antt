@@ -1,13 +1,10 @@
 -- The invariant: from here on the run stops where it did from the start.
-use Prim.Native.Nat.{◌≤◌, ◌<◌, ◌-◌, ◌+◌, suc}
-use mathlib.Core.Path.{◌≡◌, sym, ◌∙◌}
-use native.Mathlib.Nat.{sub-zero, zero-add, add-zero}
-use native.Mathlib.Omega.{arith}
-use borrow.Author.Rules.{rules}
+use Prim.Native.Nat.{◌≤◌, ◌-◌}
+use mathlib.Core.Path.{◌≡◌}
 use lib.ListN.{length}
 use Rattle.de.specs.Walk.{run, run_of}
 use Rattle.de.specs.Inner.{stopped}
-use Rattle.de.proofs.Runs.{counted, run_event, run_stop, kept}
+use Rattle.de.proofs.Runs.{counted}
 use Rattle.de.proofs.walk_events.Given as goal
 
 abbrev pub invariant-loop-next : goal.invariant-loop-next

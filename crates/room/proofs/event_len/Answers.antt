@@ -1,6 +1,5 @@
 use Prim.Native.Nat.{◌+◌}
 use native.Mathlib.Omega.{arith}
-use borrow.Author.Rules.{rules}
 use Rattle.room.proofs.Laws.{product_small, event_is, no_event}
 use Rattle.room.proofs.event_len.Goals as goal
 

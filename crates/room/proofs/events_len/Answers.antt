@@ -1,6 +1,5 @@
 -- `room::events_len` meets its contract: the parts, added up.
 use native.Mathlib.Omega.{arith}
-use borrow.Author.Rules.{rules}
 use Rattle.room.proofs.Laws.{events_are}
 use Rattle.room.proofs.events_len.Goals as goal
 

@@ -1,6 +1,5 @@
 -- `room::frames_len` meets its contract: the families' parts, added up.
 use native.Mathlib.Omega.{arith}
-use borrow.Author.Rules.{rules}
 use Rattle.room.proofs.frames_len.Goals as goal
 
 pub returns : goal.returns

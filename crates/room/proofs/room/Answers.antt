@@ -1,6 +1,5 @@
 use mathlib.Core.Path.{sym, ◌∙◌}
 use native.Mathlib.Omega.{arith}
-use borrow.Author.Rules.{rules}
 use Rattle.room.specs.Inner.{Bounded}
 use Rattle.room.proofs.Laws.{bounded, refused_as_lem, reserved_as, room_is}
 use Rattle.room.proofs.room.Goals as goal

@@ -1,4 +1,3 @@
-use borrow.Author.Rules.{rules}
 use Rattle.room.proofs.Laws.{table_is_lem}
 use Rattle.room.proofs.table_len.Goals as goal
 

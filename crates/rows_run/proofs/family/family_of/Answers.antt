@@ -1,4 +1,3 @@
-use borrow.Author.Rules.{rules}
 use Rattle.rows_run.proofs.Families.{last_family}
 use Rattle.rows_run.proofs.family.family_of.Goals as goal
 

@@ -1,10 +1,8 @@
-use mathlib.Core.Path.{◌≡◌, ap}
-use mathlib.Core.List.{[], ◌∷◌}
-use Prim.Native.Nat.{ℕ, ◌+◌, ◌*◌, ◌-◌, ◌≤◌}
+use mathlib.Core.Path.{ap}
+use Prim.Native.Nat.{ℕ, ◌+◌, ◌≤◌}
 use native.Mathlib.Omega.{arith}
 use lib.ListN.{length, get_or}
-use Rattle.wire.specs.Wire.{ranged}
-use Rattle.wire.proofs.Writers.{Left, range_start, range_room, range_step, range_done, wrote_byte, wrote_as_byte}
+use Rattle.wire.proofs.Writers.{range_start, range_room, range_step, range_done, wrote_byte, wrote_as_byte}
 use Rattle.rows_run.specs.Inner.{strided}
 use Rattle.rows_run.proofs.Strides.{next_cell, next_fits, cell_there}
 use Rattle.rows_run.proofs.fill.put_cells.Goals as goal

@@ -1,13 +1,11 @@
 -- `rows_run::fill::put_cells` meets its contract: the cells that are left are those from the k-th on.
-use mathlib.Core.Path.{◌≡◌, ap}
+use mathlib.Core.Path.{◌≡◌}
 use mathlib.Core.List.{[], ◌∷◌}
-use Prim.Native.Nat.{ℕ, ◌+◌, ◌*◌, ◌-◌, ◌≤◌}
-use native.Mathlib.Omega.{arith}
-use lib.ListN.{length, get_or}
+use Prim.Native.Nat.{◌+◌, ◌*◌, ◌-◌, ◌≤◌}
+use lib.ListN.{get_or}
 use Rattle.wire.specs.Wire.{ranged}
-use Rattle.wire.proofs.Writers.{Left, range_start, range_room, range_step, range_done, wrote_byte, wrote_as_byte}
+use Rattle.wire.proofs.Writers.{Left}
 use Rattle.rows_run.specs.Inner.{strided}
-use Rattle.rows_run.proofs.Strides.{next_cell, next_fits, cell_there}
 use Rattle.rows_run.proofs.fill.put_cells.Given as goal
 
 abbrev pub invariant-loop-k : goal.invariant-loop-k

@@ -1,7 +1,5 @@
-use Prim.Native.Nat.{◌-◌, ◌≤◌}
 use native.Mathlib.Omega.{arith}
-use Rattle.wire.specs.Wire.{ranged}
-use Rattle.wire.proofs.Writers.{Left, left_start, range_room, range_step, range_done}
+use Rattle.wire.proofs.Writers.{left_start, range_room, range_step, range_done}
 use Rattle.rows_run.specs.Inner.{plain_row}
 use Rattle.rows_run.proofs.fill.put_plain.Goals as goal
 

@@ -1,7 +1,5 @@
-use Prim.Native.Nat.{◌-◌, ◌≤◌}
 use native.Mathlib.Omega.{arith}
-use Rattle.wire.specs.Wire.{ranged}
-use Rattle.wire.proofs.Writers.{Left, left_start, range_room, range_step, range_done, room_first, room_second, wrote_length, wrote_then, wrote_byte, wrote_as_byte}
+use Rattle.wire.proofs.Writers.{left_start, range_room, range_step, range_done, room_first, room_second, wrote_length, wrote_then, wrote_byte, wrote_as_byte}
 use Rattle.rows_run.specs.Inner.{player_row}
 use Rattle.rows_run.proofs.fill.put_players.Goals as goal
 
