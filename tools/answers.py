@@ -50,11 +50,12 @@ class Names:
         self.of = of
         self.needs = [tuple(it) for it in of["needs"]]
         self.asked = [it[0] for it in of["asked_at"]]
-        self.parent, self.step, self.place, self.callee = {}, {}, {}, {}
+        self.parent, self.step, self.place, self.callee, self.whole = {}, {}, {}, {}, {}
         for it, new in zip(of["places"], of["places_by_name"]):
             name, parent, step = it[0], it[1], it[2]
             self.parent[name] = parent
             if it[3]:
+                self.whole[step[1]] = (it[3],)
                 self.callee[step[1]] = (it[3].split("::")[0], it[3].split("::")[-1])
             self.place[plain(name)] = new
             self.step.setdefault(plain(step[0]).lower(), set()).add(step[1])
@@ -92,7 +93,8 @@ class Names:
                 best = max(fits, key=lambda it: len(it[1]))
                 return best[2], 1 + len(best[1])
             at = self.parent.get(at)
-        return None, 0
+        every = {(it[2], 1 + len(it[1])) for each in self.arm_at.values() for it in each if it[0] == plain(tail[0]) and it[1] and tail[1 : 1 + len(it[1])] == it[1]}
+        return every.pop() if len(every) == 1 else (None, 0)
 
     def new_step(self, place, word):
         """The new name of the step that is called word at this place or above it."""
@@ -279,6 +281,11 @@ class Turn:
         if len(tail) > 2 and tail[1] == "ensures" and step in self.names.clauses and tail[2].isdigit():
             tail[2] = self.names.clauses[step][int(tail[2])]
         tail = [x.replace("-", "_") if x in WORDS else self.names.args.get(x, x) if k else x for k, x in enumerate(tail)]
+        nested = re.match(r"((?:1\.)*)0$", ".".join(tail[2:])) if len(tail) > 3 and tail[1] in ("new", "auto") else None
+        params = self.names.of["params"].get("::".join(self.names.whole.get(step, ("",))), [])
+        if nested and nested[1].count("1") < len(params):
+            # a path through nested pairs counts the parameters
+            return [*tail[:2], params[nested[1].count("1")]]
         written = LENT.get(self.names.callee.get(step), [])
         if len(tail) > 2 and tail[1] in ("new", "auto") and tail[2].isdigit() and int(tail[2]) < len(written):
             tail[2] = written[int(tail[2])]

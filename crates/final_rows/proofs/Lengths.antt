@@ -104,8 +104,8 @@ module _ (bits : List ℕ) (i : ℕ) (s : Slots) (k n all : ℕ) (h : k < s.coun
   step : players_over bits (drop k (slots_in s)) i 1 ≡ cond r 1 0 + players_over bits (drop (k + 1) (slots_in s)) i 1
   step = over_step bits i 1 s k h ∙ ap (λ (m : ℕ). m + players_over bits (drop (k + 1) (slots_in s)) i 1) (count_one (present_at bits (slot_in s k)) i ∙ ap (λ (b : Bool). cond b 1 0) (sym e))
 
-  pub slot_in : r ≡ true → n + 1 + players_over bits (drop (k + 1) (slots_in s)) i 1 ≡ all
-  slot_in t = let x = rw t at step in omega arith
+  pub slot_in_lem : r ≡ true → n + 1 + players_over bits (drop (k + 1) (slots_in s)) i 1 ≡ all
+  slot_in_lem t = let x = rw t at step in omega arith
 
   pub slot_out : r ≡ false → n + players_over bits (drop (k + 1) (slots_in s)) i 1 ≡ all
   slot_out t = let x = rw t at step in omega arith

@@ -74,25 +74,25 @@ overflow_add-result-2 c =
 
 pub shape_of-ids : goal.shape_of-ids
 shape_of-ids c =
-    c.put_ids.auto.1.1.1.1.0
+    c.put_ids.auto.ids
 
 pub shape_of-starts : goal.shape_of-starts
-shape_of-starts c = c.put_stepped.auto.1.1.1.1.0
+shape_of-starts c = c.put_stepped.auto.cells
 
 pub shape_of-ends : goal.shape_of-ends
-shape_of-ends c = c.put_ends-next_end.auto.1.1.1.1.1.0
+shape_of-ends c = c.put_ends-next_end.auto.ends
 
 pub shape_of-item_offsets : goal.shape_of-item_offsets
-shape_of-item_offsets c = c.put_offsets.auto.1.1.1.0
+shape_of-item_offsets c = c.put_offsets.auto.offsets
 
 pub shape_of-fod_offsets : goal.shape_of-fod_offsets
-shape_of-fod_offsets c = c.put_offsets-2.auto.1.1.1.0
+shape_of-fod_offsets c = c.put_offsets-2.auto.offsets
 
 pub shape_of-whispy_offsets : goal.shape_of-whispy_offsets
-shape_of-whispy_offsets c = c.put_offsets-3.auto.1.1.1.0
+shape_of-whispy_offsets c = c.put_offsets-3.auto.offsets
 
 pub shape_of-stadium_offsets : goal.shape_of-stadium_offsets
-shape_of-stadium_offsets c = c.put_offsets-4.auto.1.1.1.0
+shape_of-stadium_offsets c = c.put_offsets-4.auto.offsets
 
 pub returns : goal.returns
 returns c =

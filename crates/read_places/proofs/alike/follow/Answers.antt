@@ -64,7 +64,7 @@ loop-e-preserved c =
     let l = c.loop-e.invariant in
     let g = c.goes_on-span.ensures (omega (arith, c.if-span-eq0.false)) in (
       follow_more _ _ _ _ _ _ _ _ a l.0 c.loop-e-test.true c.requires.1 g (omega (arith, c.if-j-ge16.false)) (omega (arith, l.1, c.requires.0)) c.note_steps-j.ensures.0 c.note_steps-j.ensures.1,
-      c.note_steps-j.auto.1.0 ∙ l.1,
+      c.note_steps-j.auto.places ∙ l.1,
     )
 
 pub overflow_add-result : goal.overflow_add-result

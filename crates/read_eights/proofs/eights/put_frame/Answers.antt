@@ -1,0 +1,46 @@
+use Prim.Native.Nat.{◌-◌, ◌≤◌}
+use native.Mathlib.Omega.{arith}
+use Rattle.read_event.specs.Parts.{seats, seating}
+use Rattle.read_places.specs.Inner.{frame_at}
+use Rattle.read_eights.proofs.Places.{Put, put_rooms, frame_start, frame_next, frame_done}
+use Rattle.read_eights.proofs.eights.put_frame.Reads as reads
+use Rattle.read_eights.proofs.eights.put_frame.Lts as lts
+use Rattle.read_eights.proofs.eights.put_one.Reads as put-one-reads
+use Rattle.read_eights.proofs.eights.put_frame.Goals as goal
+
+pub loop-j-init : goal.loop-j-init
+loop-j-init c = (omega arith, frame_start _ _ _ _ _ _)
+
+pub overflow_mul-j : goal.overflow_mul-j
+overflow_mul-j c = omega (arith, c.requires.1, c.loop-j-test.true)
+
+pub overflow_add-j : goal.overflow_add-j
+overflow_add-j c = omega (arith, c.requires.1, c.requires.0, c.loop-j-test.true)
+
+pub put_one-requires : goal.put_one-requires
+put_one-requires c =
+    let h = c.requires in
+    (omega (arith, h.0, h.1, h.2, c.loop-j-test.true), h.3, h.4, put_rooms h.5 c.loop-j.invariant.1)
+
+pub overflow_add-j-in-loop-j : goal.overflow_add-j-in-loop-j
+overflow_add-j-in-loop-j c = omega (arith, c.loop-j-test.true)
+
+pub loop-j-smaller : goal.loop-j-smaller
+loop-j-smaller c = omega (arith, c.loop-j-test.true)
+
+pub loop-j-preserved : goal.loop-j-preserved
+loop-j-preserved c =
+    let k = c.put_one.auto.posts.1.1.1.1.1.1.1.1 in
+    (omega (arith, c.loop-j-test.true), frame_next _ _ _ k.0 k.1.0 k.1.1.0 _ _ _ c.loop-j.invariant.1 c.put_one.ensures)
+
+pub shape_of-pres : goal.shape_of-pres
+shape_of-pres c = c.loop-j.invariant.1.pres
+
+pub shape_of-posts : goal.shape_of-posts
+shape_of-posts c = c.loop-j.invariant.1.posts
+
+pub shape_of-presence : goal.shape_of-presence
+shape_of-presence c = c.loop-j.invariant.1.presence
+
+pub returns : goal.returns
+returns c = let l = c.loop-j.invariant in frame_done _ _ _ _ _ _ _ _ l.1 l.0 (omega (arith, c.loop-j-test.false))
