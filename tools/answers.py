@@ -281,7 +281,7 @@ class Turn:
         if len(tail) > 2 and tail[1] == "ensures" and step in self.names.clauses and tail[2].isdigit():
             tail[2] = self.names.clauses[step][int(tail[2])]
         tail = [x.replace("-", "_") if x in WORDS else self.names.args.get(x, x) if k else x for k, x in enumerate(tail)]
-        nested = re.match(r"((?:1\.)*)0$", ".".join(tail[2:])) if len(tail) > 3 and tail[1] in ("new", "auto") else None
+        nested = re.match(r"((?:1\.)*)0(?:\.|$)", ".".join(tail[2:])) if len(tail) > 3 and tail[1] in ("new", "auto") else None
         params = self.names.of["params"].get("::".join(self.names.whole.get(step, ("",))), [])
         if nested and nested[1].count("1") < len(params):
             # a path through nested pairs counts the parameters
@@ -292,7 +292,7 @@ class Turn:
         return tail
 
     def words(self, text, table):
-        return TOKEN.sub(lambda it: table.get(it[0], it[0]), text)
+        return TOKEN.sub(lambda it: it[0] if text[: it.start()].endswith(".") else table.get(it[0], it[0]), text)
 
     def variables(self, text, table):
         """Replaces variables, and no field behind a dot and no label of a record."""

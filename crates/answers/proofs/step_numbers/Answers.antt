@@ -9,7 +9,7 @@ returns-in-Event c = sym (ap stepped c.in-Event.is)
 
 -- src/answers.rt:52:1
 pub returns-in-Ends : goal.returns-in-Ends
-returns-in-Ends c = c.bare.ensures ∙ sym (ap stepped c.enum_told-1.given.1)
+returns-in-Ends c = c.bare.ensures ∙ sym (ap stepped c.in-Ends.is)
 
 -- src/answers.rt:52:1
 pub returns-in-Cut : goal.returns-in-Cut

@@ -8,7 +8,7 @@ use Rattle.game.specs.Frames.{Slot}
 use Rattle.players.specs.Inner.{slots_in}
 use Rattle.events.specs.Length.{players_over}
 use Rattle.append.proofs.Lengths.{over_done}
-use Rattle.final_rows.proofs.Lengths.{slot_in, slot_out}
+use Rattle.final_rows.proofs.Lengths.{slot_in_lem, slot_out}
 use Rattle.final_rows.proofs.sizes.players_in.Given as goal
 
 abbrev pub invariant-loop-k : goal.invariant-loop-k

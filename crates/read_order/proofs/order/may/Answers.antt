@@ -8,7 +8,7 @@ use Rattle.read_order.proofs.order.may.Goals as goal
 pub returns-in-FrameStart : goal.returns-in-FrameStart
 returns-in-FrameStart c =
     let a = c.args in
-    arm (λ f. orderly a.v (order_of a.order) (state_in a.file.now a.span a.m) f (said_of a.w)) c.enum_told-1.given.1
+    arm (λ f. orderly a.v (order_of a.order) (state_in a.file.now a.span a.m) f (said_of a.w)) c.in-FrameStart.is
     (start_arm a.v _ a.file.now a.span a.m a.w c.is_closed.result c.is_closed.ensures)
 
 pub returns-in-Pre : goal.returns-in-Pre

@@ -7,7 +7,7 @@ use Rattle.read_order.proofs.step.moved.Goals as goal
 pub with_pre-requires : goal.with_pre-requires
 with_pre-requires c =
     let a = c.args in
-    ready_as a.file.now a.span a.m a.w a.at a.next a.family Pre c.enum_told-1.given.1 c.requires.0
+    ready_as a.file.now a.span a.m a.w a.at a.next a.family Pre c.in-Pre.is c.requires.0
 
 pub with_post-requires : goal.with_post-requires
 with_post-requires c =
@@ -38,7 +38,7 @@ with_row-requires-in-FrameEnd c = (λ x. absurd (omega arith), c.requires.1)
 pub returns-in-Pre : goal.returns-in-Pre
 returns-in-Pre c =
     let a = c.args in
-    after_as a.file.now a.span a.m a.w a.next a.family Pre c.with_pre.result c.enum_told-1.given.1 c.with_pre.ensures
+    after_as a.file.now a.span a.m a.w a.next a.family Pre c.with_pre.result c.in-Pre.is c.with_pre.ensures
 
 pub returns-in-Post : goal.returns-in-Post
 returns-in-Post c =
