@@ -1,5 +1,4 @@
-// The reader as a value: the lent replay beside a place in it. The borrow checker covers no function over a struct that holds a
-// reference, so these calls are few and thin, and each is proved by hand. The work is `de::step_at`, which is covered.
+// The reader as a value: the lent replay beside a place in it. Its calls are few and thin: the work is `de::step_at`.
 #![tactic(auto)]
 
 ghost use Rattle.std.specs.Prelude.{◌≡◌};
@@ -55,7 +54,7 @@ pub fn first_place(file: &[u8]) -> usize
     head::table::first_place(file)
 }
 
-// What stands at a place, for a caller with a plain slice, whose own proof then needs no walk by hand.
+// What stands at a place, for a caller with a plain slice.
 pub fn event_from(file: &[u8], place: usize) -> Step
     ensures { step_numbers result ≡ step_numbers (step_of file.now place) }
 {
