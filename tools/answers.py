@@ -206,7 +206,7 @@ class Turn:
 
     def paths(self, text, place, need, root="c"):
         """Writes each path from root by today's steps, where root is the record at this place."""
-        roots, steps = {root: place}, {}
+        roots, steps, nested = {root: place}, {}, {}
         out, at = [], 0
         for it in re.finditer(r"(?<![\w.'-])(" + W + r")((?:\.[^\s(){}.;,@\[\]\\]+)*)", text):
             out.append(text[at : it.start()])
@@ -217,6 +217,12 @@ class Turn:
                 steps.pop(head, None)
                 out.append(it[0])
                 continue
+            if head in nested and tail:
+                step, n = nested[head]
+                params = self.names.of["params"].get("::".join(self.names.whole.get(step, ("",))), [])
+                ones = next((k for k, x in enumerate(tail) if x != "1"), len(tail))
+                if ones < len(tail) and tail[ones] == "0" and n + ones < len(params):
+                    tail = [params[n + ones], *tail[ones + 1 :]]
             if head in steps and len(tail) > 1:
                 tail = self.named(steps[head], [steps[head], *tail])[1:]
             if head not in roots:
@@ -256,6 +262,11 @@ class Turn:
                     tail[1] = FIELDS.get(tail[1], tail[1])
             if tail[0] in FIELDS and not step and not told:
                 tail[0] = FIELDS[tail[0]]
+            nest = re.search(r"let (" + W + r") = $", text[: it.start()])
+            if nest and len(tail) > 1 and tail[1] in ("new", "auto") and set(tail[2:]) <= {"1"} and re.search(r"(?<![\w.'-])" + re.escape(nest[1]) + r"\.(1\.)*0(?!\d)", text[it.end() :]):
+                # the rest of nested pairs, whose parts are counted from here
+                nested[nest[1]] = (tail[0], len(tail) - 2)
+                tail = tail[:2]
             tail = self.named(tail[0], tail)
             bound = re.search(r"let (" + W + r") = $", text[: it.start()])
             if bound and len(tail) == 1 and re.match(r"\s+in\b", text[it.end() :]):

@@ -155,5 +155,5 @@ mask_row kept {m} {mask} k a b c d o ek ea eb ec ed =
     let bytes : k ∷ a ∷ b ∷ c ∷ d ∷ [] ≡ five (mask_numbers m).number mask = rw (ek, ea, eb, ec, ed) in
     bytes
     ∙ ap (λ (l : List ℕ). five (mask_numbers m).number l) o.mask_is
-    ∙ ap (λ (x : Masked). five (mask_numbers x).number (mask_after x kept four_ids (replicate 4 0))) (masked.answer-of o)
+    ∙ ap (λ (x : Masked). five (mask_numbers x).number (mask_after x kept four_ids (replicate 4 0))) (masked.answer_of_lem o)
     ∙ four_bytes kept

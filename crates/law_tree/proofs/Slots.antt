@@ -66,7 +66,7 @@ small_port at p h = ((h, omega arith), each_keep Small (follows p) _ (λ e. each
 small_slots : (at : ℕ) (ps : List PortColumn) → Each (λ p. p.port ≤ 3) ps → Each Small (slots_from at ps)
 unfolding slots_from Each
 small_slots at [] h = tt
-small_slots at (p ∷ ps) h = each_both Small (port_slots at p) _ (small_port at p h.0) (small_slots _ ps h.1)
+small_slots at (p ∷ ps) h = each_both Small (port_slots at p) _ (small_port at p h.0) (small_slots (at + port_bytes p) ps h.1)
 
 module _ (o : Order) where
   -- a slot far before those of other ports
@@ -81,7 +81,7 @@ module _ (o : Order) where
   far_slots : (s : Slot) → s.follower ≤ 1 → (at : ℕ) (ps : List PortColumn) → Each (λ p. PortBefore o s.port p.port) ps → Each (Far o s) (slots_from at ps)
   unfolding slots_from Each
   far_slots s f at [] h = tt
-  far_slots s f at (p ∷ ps) h = each_both (Far o s) (port_slots at p) _ (far_port s f at p h.0) (far_slots s f _ ps h.1)
+  far_slots s f at (p ∷ ps) h = each_both (Far o s) (port_slots at p) _ (far_port s f at p h.0) (far_slots s f (at + port_bytes p) ps h.1)
 
   far_next : (s t : Slot) → Far o s t → Next o s t
   far_next s t h = far_any o true (number_of s) (number_of t) h

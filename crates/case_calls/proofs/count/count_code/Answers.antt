@@ -5,14 +5,14 @@ use borrow.Author.Rules.{rules}
 use lib.ListN.{length}
 use Rattle.head.proofs.Only.{step_told}
 use Rattle.head.proofs.Steps.{event_ends}
-use Rattle.de.proofs.Runs.{kept}
+use Rattle.de.proofs.Runs.{no_event}
 use Rattle.case_calls.proofs.CountLaws.{Counting, starts, goes_on, ends_here}
 use Rattle.case_calls.proofs.count.count_code.Goals as goal
 
 pub returns-in_default : goal.returns-in_default
 returns-in_default c =
     let s = c.step_at-step in
-    ends_here _ _ _ _ _ c.loop-found.invariant (kept s.result c.in_default.in_default-own.keys2) (sym (step_told s.result _ s.ensures))
+    ends_here _ _ _ _ _ c.loop-found.invariant (no_event s.result c.in_default.not-Event) (sym (step_told s.result _ s.ensures))
 
 pub one_more-n-requires : goal.one_more-n-requires
 one_more-n-requires c =

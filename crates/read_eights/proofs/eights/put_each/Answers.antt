@@ -28,8 +28,8 @@ loop-t-smaller c = omega (arith, c.loop-t-test.true)
 
 pub loop-t-preserved : goal.loop-t-preserved
 loop-t-preserved c =
-    let k = c.put_one.auto.posts.1.1.1.1.1.1.1.1 in
-    (omega (arith, c.loop-t-test.true), across_next _ _ _ k.0 k.1.0 k.1.1.0 _ _ _ c.loop-t.invariant.1 c.put_one.ensures)
+    let k = c.put_one.auto in
+    (omega (arith, c.loop-t-test.true), across_next _ _ _ k.pres k.posts k.presence _ _ _ c.loop-t.invariant.1 c.put_one.ensures)
 
 pub shape_of-pres : goal.shape_of-pres
 shape_of-pres c = c.loop-t.invariant.1.pres

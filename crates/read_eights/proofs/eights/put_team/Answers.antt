@@ -27,8 +27,8 @@ loop-j-smaller c = omega (arith, c.loop-j-test.true)
 
 pub loop-j-preserved : goal.loop-j-preserved
 loop-j-preserved c =
-    let k = c.put_across.auto.posts.1.1.1.1.1.1.1.1 in
-    (omega (arith, c.loop-j-test.true), team_next _ _ _ k.0 k.1.0 k.1.1.0 _ _ c.loop-j.invariant.1 c.put_across.ensures)
+    let k = c.put_across.auto in
+    (omega (arith, c.loop-j-test.true), team_next _ _ _ k.pres k.posts k.presence _ _ c.loop-j.invariant.1 c.put_across.ensures)
 
 pub shape_of-pres : goal.shape_of-pres
 shape_of-pres c = c.loop-j.invariant.1.pres

@@ -31,9 +31,9 @@ loop-at-smaller c =
 
 pub loop-at-preserved : goal.loop-at-preserved
 loop-at-preserved c =
-    let k = c.put_batch.auto.posts.1.1.1.1.1.1.1.1.1 in
+    let k = c.put_batch.auto in
     let e = c.find_next-k.auto.places in
-    (passing_on _ _ _ _ _ _ c.loop-at.invariant.0 c.requires.0 c.find_next-k.ensures e k.0 k.1.0 k.1.1.0 c.put_batch.ensures, e ∙ c.loop-at.invariant.1)
+    (passing_on _ _ _ _ _ _ c.loop-at.invariant.0 c.requires.0 c.find_next-k.ensures e k.pres k.posts k.presence c.put_batch.ensures, e ∙ c.loop-at.invariant.1)
 
 pub shape_of-places : goal.shape_of-places
 shape_of-places c = c.loop-at.invariant.1

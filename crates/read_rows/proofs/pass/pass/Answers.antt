@@ -53,20 +53,20 @@ loop-at-smaller-then-e-gt0 c =
 pub loop-at-preserved-then-e-gt0 : goal.loop-at-preserved-then-e-gt0
 loop-at-preserved-then-e-gt0 c =
     let l = c.leaps_at-e.ensures c.if-e-gt0.true in
-    let k = c.leap-s.auto.starts.1.1.1.1 in (
+    let k = c.leap-s.auto in (
       passing_leap _ _ _ _ _ _ _ _ _ c.loop-at.invariant.0 c.requires.0 l c.leap-s.ensures
           (record {
-            ids = k.0;
-            starts = k.1.0;
-            ends = k.1.1.0;
+            ids = k.ids;
+            starts = k.starts;
+            ends = k.ends;
             items = refl;
             fods = refl;
             whispys = refl;
             stadiums = refl;
-            item_offsets = k.1.1.1.0;
-            fod_offsets = k.1.1.1.1.0;
-            whispy_offsets = k.1.1.1.1.1.0;
-            stadium_offsets = k.1.1.1.1.1.1.0;
+            item_offsets = k.item_offsets;
+            fod_offsets = k.fod_offsets;
+            whispy_offsets = k.whispy_offsets;
+            stadium_offsets = k.stadium_offsets;
           }),
       omega arith,
     )
@@ -99,20 +99,20 @@ loop-at-smaller c =
 pub loop-at-preserved : goal.loop-at-preserved
 loop-at-preserved c =
     let spans = c.requires.0 in
-    let k = c.turn-s.auto.starts.1.1.1.1 in
+    let k = c.turn-s.auto in
     let on = passing_on _ _ _ _ _ _ _ _ _ c.loop-at.invariant.0 c.loop-at-test.true spans _ c.span_of.ensures _ _
     (record {
-      ids = k.0;
-      starts = k.1.0;
-      ends = k.1.1.0;
-      items = k.1.1.1.0;
-      fods = k.1.1.1.1.0;
-      whispys = k.1.1.1.1.1.0;
-      stadiums = k.1.1.1.1.1.1.0;
-      item_offsets = k.1.1.1.1.1.1.1.0;
-      fod_offsets = k.1.1.1.1.1.1.1.1.0;
-      whispy_offsets = k.1.1.1.1.1.1.1.1.1.0;
-      stadium_offsets = k.1.1.1.1.1.1.1.1.1.1.0;
+      ids = k.ids;
+      starts = k.starts;
+      ends = k.ends;
+      items = k.items;
+      fods = k.fods;
+      whispys = k.whispys;
+      stadiums = k.stadiums;
+      item_offsets = k.item_offsets;
+      fod_offsets = k.fod_offsets;
+      whispy_offsets = k.whispy_offsets;
+      stadium_offsets = k.stadium_offsets;
     })
     c.turn-s.ensures in
     (passing_quiet _ _ _ _ _ _ _ _ _ on spans c.after_quiet-at.ensures, omega (arith, c.last_at-last.ensures, c.after_quiet-at.ensures.forward))
