@@ -206,7 +206,7 @@ class Turn:
 
     def paths(self, text, place, need, root="c"):
         """Writes each path from root by today's steps, where root is the record at this place."""
-        roots, steps, nested = {root: place}, {}, {}
+        roots, steps, nested, aliases = {root: place}, {}, {}, {}
         out, at = [], 0
         for it in re.finditer(r"(?<![\w.'-])(" + W + r")((?:\.[^\s(){}.;,@\[\]\\]+)*)", text):
             out.append(text[at : it.start()])
@@ -223,6 +223,11 @@ class Turn:
                 ones = next((k for k, x in enumerate(tail) if x != "1"), len(tail))
                 if ones < len(tail) and tail[ones] == "0" and n + ones < len(params):
                     tail = [params[n + ones], *tail[ones + 1 :]]
+            if head in aliases and tail:
+                arm, told = self.names.arm(aliases[head][0], [*aliases[head][1], *tail])
+                if told:
+                    out.append(".".join([root, *arm.split("."), *[*aliases[head][1], *tail][told:]]))
+                    continue
             if head in steps and len(tail) > 1:
                 tail = self.named(steps[head], [steps[head], *tail])[1:]
             if head not in roots:
@@ -252,6 +257,10 @@ class Turn:
                     self.used_places.add(new)
                     out.append(f"(goal.at.{need} {root}).{new}" if need else f"⟦{head}⟧")
                 continue
+            alias = re.search(r"let (" + W + r") = $", text[: it.start()])
+            if alias and len(tail) == 2 and tail[1] == "given" and re.match(r"\s+in\b", text[it.end() :]) and not self.names.arm(here, tail)[1]:
+                # what a value holds, whose parts have names of their own now
+                aliases[alias[1]] = (here, tail)
             arm, told = self.names.arm(here, tail)
             step = self.names.new_step(here, tail[0])
             if told:
@@ -276,6 +285,8 @@ class Turn:
             out.append(".".join([head, *tail]))
         out.append(text[at:])
         text = "".join(out)
+        for it in aliases:
+            text = re.sub(r" *let " + re.escape(it) + r" = \S+\.given in\s*?\n", "", text) if not re.search(r"(?<![\w.'-])" + re.escape(it) + r"\.", text) else text
         # a name for what is now the record itself
         again = True
         while again:

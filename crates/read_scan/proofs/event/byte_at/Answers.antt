@@ -1,0 +1,8 @@
+use mathlib.Core.Path.{sym}
+use native.Mathlib.Omega.{arith}
+use lib.ListN.{get_or-eq_default}
+use borrow.Author.Rules.{rules}
+use Rattle.read_scan.proofs.event.byte_at.Goals as goal
+
+pub returns : goal.returns
+returns c = sym (get_or-eq_default c.args.file.now 0 (omega arith))
