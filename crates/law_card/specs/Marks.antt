@@ -27,31 +27,4 @@ marked_pre mark r = record {
 }
 
 abbrev pub marked_post : ℕ → Post → Post
-marked_post mark r = record {
-  version = r.version;
-  present = mark;
-  bits = r.bits;
-  character = r.character;
-  state = r.state;
-  position = r.position;
-  direction = r.direction;
-  percent = r.percent;
-  shield = r.shield;
-  last_attack_landed = r.last_attack_landed;
-  combo_count = r.combo_count;
-  last_hit_by = r.last_hit_by;
-  stocks = r.stocks;
-  state_age = r.state_age;
-  state_flags = r.state_flags;
-  misc_as = r.misc_as;
-  airborne = r.airborne;
-  ground = r.ground;
-  jumps = r.jumps;
-  l_cancel = r.l_cancel;
-  hurtbox_state = r.hurtbox_state;
-  velocities = r.velocities;
-  hitlag = r.hitlag;
-  animation_index = r.animation_index;
-  last_hit_by_instance = r.last_hit_by_instance;
-  instance_id = r.instance_id;
-}
+marked_post mark r = record r { present = mark }

@@ -405,15 +405,15 @@ module _ (v : Version) (file spans : List ℕ) (stop : ℕ) (tail : List ℕ) (f
     unfolding second_at
     second_wrong k = by_second false (rw (right_there ∙ k))
 
-    ends_at : is_right v f ≡ true → stop ≡ next + (1 + end_size v) + length (events_bytes es)
-    ends_at k = omega (arith, size_of file spans stop tail next f es second_stands, (right_is v f k).1)
+    ends_at_lem : is_right v f ≡ true → stop ≡ next + (1 + end_size v) + length (events_bytes es)
+    ends_at_lem k = omega (arith, size_of file spans stop tail next f es second_stands, (right_is v f k).1)
 
   two_right : (e f : Ev) (s : Stands file spans stop tail first (e ∷ f ∷ [])) (r : is_right v e ≡ true) → is_right v f ≡ true → (b : Bool)
       → same_run file (first + 1) (first + (1 + end_size v) + 1) (end_size v) ≡ b → ends_at v file spans first stop ≡ cond b (ends.Good 2) ends.Wrong
   unfolding second_at events_bytes
   two_right e f s r k b m =
       by_second e f [] s r b
-      (rw (right_there e f [] s r ∙ k, eq-eqb (first + (1 + end_size v) + (1 + end_size v)) stop (omega (arith, ends_at e f [] s r k)), m))
+      (rw (right_there e f [] s r ∙ k, eq-eqb (first + (1 + end_size v) + (1 + end_size v)) stop (omega (arith, ends_at_lem e f [] s r k)), m))
 
   three : (e f g : Ev) (es : List Ev) (s : Stands file spans stop tail first (e ∷ f ∷ g ∷ es)) (r : is_right v e ≡ true) → is_right v f ≡ true
       → ends_at v file spans first stop ≡ ends.Wrong
@@ -421,7 +421,7 @@ module _ (v : Version) (file spans : List ℕ) (stop : ℕ) (tail : List ℕ) (f
   three e f g es s r k =
       let n = length-append (event_bytes g) (events_bytes es) in
       by_second e f (g ∷ es) s r false
-      (rw (right_there e f (g ∷ es) s r ∙ k, ne_eqb (first + (1 + end_size v) + (1 + end_size v)) stop (λ q. omega (arith, ends_at e f (g ∷ es) s r k, q, n))))
+      (rw (right_there e f (g ∷ es) s r ∙ k, ne_eqb (first + (1 + end_size v) + (1 + end_size v)) stop (λ q. omega (arith, ends_at_lem e f (g ∷ es) s r k, q, n))))
 
 -- the ends are good, or the answer is that they are wrong
 data Judged (v : Version) (es : List Ev) (r : Ends) : Type 0 where

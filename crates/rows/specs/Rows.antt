@@ -39,7 +39,8 @@ pre_of raw v present = record {
 }
 
 abbrev pub post_of : List ℕ → Version → ℕ → Post
-post_of raw v present = record {
+-- the field's name is also a tactic's: the line that names its type says that the field is meant
+post_of raw v present = let ground : ℕ = get_or raw 19 0 in record {
   version = v;
   present = present;
   bits = raw;
@@ -57,7 +58,7 @@ post_of raw v present = record {
   state_flags = flags_of (get_or raw 12 0) (get_or raw 13 0) (get_or raw 14 0) (get_or raw 15 0) (get_or raw 16 0);
   misc_as = float (get_or raw 17 0);
   airborne = get_or raw 18 0;
-  ground = get_or raw 19 0;
+  ground = ground;
   jumps = get_or raw 20 0;
   l_cancel = get_or raw 21 0;
   hurtbox_state = get_or raw 22 0;
