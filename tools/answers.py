@@ -260,7 +260,7 @@ class Turn:
             alias = re.search(r"let (" + W + r") = $", text[: it.start()])
             if alias and len(tail) == 2 and tail[1] == "given" and re.match(r"\s+in\b", text[it.end() :]) and not self.names.arm(here, tail)[1]:
                 # what a value holds, whose parts have names of their own now
-                aliases[alias[1]] = (here, tail)
+                aliases[alias[1]] = (here, list(tail))
             arm, told = self.names.arm(here, tail)
             step = self.names.new_step(here, tail[0])
             if told:
@@ -285,6 +285,8 @@ class Turn:
             out.append(".".join([head, *tail]))
         out.append(text[at:])
         text = "".join(out)
+        # a test of what is not so says it plainly now
+        text = re.sub(r"\(?\bnot_(?:taken|left) (?:[^\s()]+|\([^()]*\)) (" + root + r"\.if-not-[^\s()]+?\.(?:true|false))(?![\w.])(\)?)", lambda it: ("(" if it[0].startswith("(") and not it[2] else "") + it[1] + (it[2] if it[2] and not it[0].startswith("(") else ""), text)
         for it in aliases:
             text = re.sub(r" *let " + re.escape(it) + r" = \S+\.given in\s*?\n", "", text) if not re.search(r"(?<![\w.'-])" + re.escape(it) + r"\.", text) else text
         # a name for what is now the record itself
@@ -458,32 +460,38 @@ class Turn:
         lines = block.split("\n")
         comment = [x for x in lines if x.startswith("--")]
         body = "\n".join(x for x in lines if not x.startswith("--"))
-        it = re.match(r"(?s)" + re.escape(name) + r" : [^\n]*\n((?:unfolding[^\n]*\n)?)" + re.escape(name) + r" (c|_)( \S+)? =(.*)", body)
+        it = re.match(r"(?s)" + re.escape(name) + r" : [^\n]*\n((?:unfolding[^\n]*\n)?)" + re.escape(name) + r" (c|_)((?: [^\s=]+)*) =(.*)", body)
         if not it:
             self.left.append(f"an answer of another form: {name}")
             return block
-        whole, extra = it[4], (it[3] or "").strip()
+        whole, extra, more = it[4], *self.parameters(new, it[3])
         if TRIVIAL.match(whole.strip()) and not it[1]:
             return None
         if extra and re.search(r"(?<![\w.])" + re.escape(extra) + r"(?![\w'])", whole):
             self.left.append(f"{name} uses {extra}")
         whole = self.paths(self.words(whole, {k: v for k, v in renamed.items() if k != name}), place, new)
-        return "\n".join([*comment, f"pub {new} : goal.{new}", it[1] + f"{new} {it[2]} ={whole}"])
+        return "\n".join([*comment, f"pub {new} : goal.{new}", it[1] + f"{new} {it[2]}{more} ={whole}"])
+
+    def parameters(self, goal, words):
+        """The lifetimes that an older answer to what a call requires took, and the parameters behind them."""
+        words = (words or "").split()
+        lifetimes = words.pop(0) if words and (words[0] == "κs" or "requires" in goal) else ""
+        return lifetimes, "".join(" " + x for x in words)
 
     def inline(self, arg, j, renamed):
         new, place = self.names.needs[j][1], self.names.asked[j]
-        it = re.match(r"(?s)\(λ (c|_)( \S+)?\.\s(.*)\)$", arg)
+        it = re.match(r"(?s)\(λ (c|_)((?: [^\s.]+)*)\.\s(.*)\)$", arg)
         if not it:
             self.left.append(f"an argument of another form: {arg[:40]}")
             return None
         if TRIVIAL.match(it[3].strip()) and not self.opens:
             return None
-        extra = (it[2] or "").strip()
+        extra, more = self.parameters(new, it[2])
         if extra and re.search(r"(?<![\w.])" + re.escape(extra) + r"(?![\w'])", it[3]):
             self.left.append(f"{new} uses {extra}")
         whole = self.paths(self.words(it[3], renamed), place, new)
         whole = whole.strip()
-        return f"pub {new} : goal.{new}\n{self.opens}{new} {it[1]} =" + ("\n    " if "\n" in whole else " ") + whole
+        return f"pub {new} : goal.{new}\n{self.opens}{new} {it[1]}{more} =" + ("\n    " if "\n" in whole else " ") + whole
 
     def helper(self, block, renamed, loops):
         text = self.words(block, renamed)

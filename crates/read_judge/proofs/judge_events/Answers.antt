@@ -4,70 +4,56 @@ use Rattle.read_judge.proofs.StartLaws.{not_taken, not_left}
 use Rattle.read_judge.specs.Inner.{JudgesFirst}
 use Rattle.read_judge.proofs.Steps.{started, opens_not, too_new_lem, not_held, cut, counted}
 use Rattle.read_judge.proofs.judge_events.Goals as goal
-use Rattle.read_judge.proofs.judge_events.Tie as tie
 
 pub first_event-e-requires : goal.first_event-e-requires
-first_event-e-requires c = let s = c.before.before.before in (s.requires.starts, s.requires.within, s.requires.many)
+first_event-e-requires c = (c.requires.starts, c.requires.within, c.requires.many)
 
-unless-walk-refused-requires : tie.Need-unless-walk-refused-requires
-unless-walk-refused-requires c κs k =
-    let s = c.before.before.before.before.before in
-    let a = s.args in
-    let e = c.before.before.first_event in
-    opens_not a.file.now a.spans.now a.first a.stop a.whole s.requires k e.result e.ensures c.enum_told.given.1
+pub unless_walk_refused-requires : goal.unless_walk_refused-requires
+unless_walk_refused-requires c k =
+    let a = c.args in
+    let e = c.first_event-e in
+    opens_not a.file.now a.spans.now a.first a.stop a.whole c.requires k e.result e.ensures c.in_default.is
 
-unless-walk-refused-requires-2 : tie.Need-unless-walk-refused-requires-2
-unless-walk-refused-requires-2 c κs k =
-    let s = c.before.before.before.before.before.before.before.before in
-    let a = s.args in
-    let e = c.before.before.before.before.before.first_event in
-    let o = c.before.before.before.e.given in
-    let x = c.before.accepted in
-    too_new_lem a.file.now a.spans.now a.first a.stop a.whole s.requires k o.0.0 o.0.1.0 e.result e.ensures o.1 (sym x.ensures ∙ not_taken x.result c.if1.true)
+pub unless_walk_refused-requires-then-not-accepted : goal.unless_walk_refused-requires-then-not-accepted
+unless_walk_refused-requires-then-not-accepted c k =
+    let a = c.args in
+    let e = c.first_event-e in
+    let x = c.accepted in
+    too_new_lem a.file.now a.spans.now a.first a.stop a.whole c.requires k c.in-Opens.version c.in-Opens.len e.result e.ensures c.in-Opens.is (sym x.ensures ∙ c.if-not-accepted.true)
 
-unless-walk-refused-requires-3 : tie.Need-unless-walk-refused-requires-3
-unless-walk-refused-requires-3 c κs k =
-    let s = c.before.before.before.before.before.before.before.before.before in
-    let a = s.args in
-    let e = c.before.before.before.before.before.before.first_event in
-    let o = c.before.before.before.before.e.given in
-    let x = c.before.before.accepted in
-    cut a.file.now a.spans.now a.first a.stop a.whole s.requires k o.0.0 o.0.1.0 e.result e.ensures o.1 (sym x.ensures ∙ not_left x.result c.before.if1.false) (not_taken a.whole c.if2.true)
+pub unless_walk_refused-requires-then-not-whole : goal.unless_walk_refused-requires-then-not-whole
+unless_walk_refused-requires-then-not-whole c k =
+    let a = c.args in
+    let e = c.first_event-e in
+    let x = c.accepted in
+    cut a.file.now a.spans.now a.first a.stop a.whole c.requires k c.in-Opens.version c.in-Opens.len e.result e.ensures c.in-Opens.is (sym x.ensures ∙ c.if-not-accepted.false) c.if-not-whole.true
 
 pub judge_parts-j-requires : goal.judge_parts-j-requires
 judge_parts-j-requires c =
-    let s = c.before.before.before.before.before.before.before.before.before.before in
-    let a = s.args in
+    let a = c.args in
     let e = c.first_event-e in
-    let o = c.e-1.given in
     let x = c.accepted in
-    started a.file.now a.spans.now a.first a.stop a.whole s.requires (not_left a.whole c.if-not-whole.false) o.0.0 o.0.1.0 e.result e.ensures o.1
-    (sym x.ensures ∙ not_left x.result c.if-not-accepted.false)
+    started a.file.now a.spans.now a.first a.stop a.whole c.requires c.if-not-whole.false c.in-Opens.version c.in-Opens.len e.result e.ensures c.in-Opens.is
+    (sym x.ensures ∙ c.if-not-accepted.false)
 
-unless-walk-refused-requires-4 : tie.Need-unless-walk-refused-requires-4
-unless-walk-refused-requires-4 c κs k =
-    let c5 = c.before.before.before.before.before in
-    let s = c5.before.before.before.before.before.before.before in
-    let a = s.args in
-    let e = c5.before.before.before.before.first_event in
-    let o = c5.before.before.e.given in
-    let x = c5.accepted in
-    let j = c.before.before.judge-parts in
-    not_held a.file.now a.spans.now a.first a.stop a.whole s.requires k o.0.0 o.0.1.0 e.result e.ensures o.1
-    (sym x.ensures ∙ not_left x.result c.before.before.before.before.if1.false)
-    (subst (JudgesFirst a.file.now a.first a.stop) c.enum-told2.given.1 j.ensures k)
+pub unless_walk_refused-requires-in_default-j : goal.unless_walk_refused-requires-in_default-j
+unless_walk_refused-requires-in_default-j c k =
+    let a = c.args in
+    let e = c.first_event-e in
+    let x = c.accepted in
+    let j = c.judge_parts-j in
+    not_held a.file.now a.spans.now a.first a.stop a.whole c.requires k c.in-Opens.version c.in-Opens.len e.result e.ensures c.in-Opens.is
+    (sym x.ensures ∙ c.if-not-accepted.false)
+    (subst (JudgesFirst a.file.now a.first a.stop) c.in_default-j.is j.ensures k)
 
 pub judge_counts-requires : goal.judge_counts-requires
 judge_counts-requires c =
-    let s = c.before.before.before.before.before.before.before.before.before.before.before.before.before.before in
-    let a = s.args in
+    let a = c.args in
     let e = c.first_event-e in
-    let o = c.e-1.given in
     let x = c.accepted in
     let j = c.judge_parts-j in
-    let held = c.j-1.given in
-    let all = subst (JudgesFirst a.file.now a.first a.stop) held.1 j.ensures in
-    counted a.file.now a.spans.now a.first a.stop a.whole s.requires all.0 o.0.0 o.0.1.0 e.result e.ensures o.1 (sym x.ensures ∙ not_left x.result c.if-not-accepted.false) held.0.0 all.1
+    let all = subst (JudgesFirst a.file.now a.first a.stop) c.in-Held.is j.ensures in
+    counted a.file.now a.spans.now a.first a.stop a.whole c.requires all.0 c.in-Opens.version c.in-Opens.len e.result e.ensures c.in-Opens.is (sym x.ensures ∙ c.if-not-accepted.false) c.in-Held.parts all.1
 
 pub returns-in_default : goal.returns-in_default
 returns-in_default c = c.unless_walk_refused.ensures

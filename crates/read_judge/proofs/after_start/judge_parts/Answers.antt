@@ -1,3 +1,5 @@
+use mathlib.Core.Bool.{not}
+use mathlib.Core.Path.{ap}
 use borrow.Author.Rules.{rules}
 use native.Mathlib.Omega.{arith}
 use Rattle.read_judge.proofs.Before.{at_within, start_wrong, codes_wrong_lem, place_within, listed_wrong, frames_wrong, last_within, changing_wrong, ends_wrong, all_held}
@@ -17,7 +19,7 @@ pub returns-then-not-start_fits : goal.returns-then-not-start_fits
 returns-then-not-start_fits c =
     let a = c.args in
     let w = c.start_fits in
-    start_wrong a.file.now a.spans.now a.v a.first a.stop a.len c.requires w.result w.ensures c.if-not-start_fits.true
+    start_wrong a.file.now a.spans.now a.v a.first a.stop a.len c.requires w.result w.ensures (ap not c.if-not-start_fits.true)
 
 pub codes-c-requires : goal.codes-c-requires
 codes-c-requires c =
@@ -37,66 +39,54 @@ pub returns-then-not-listed_right : goal.returns-then-not-listed_right
 returns-then-not-listed_right c =
     let a = c.args in
     let k = c.codes-c in
-    let p = c.c-1.given in
     let w = c.listed_right in
-    listed_wrong a.file.now a.spans.now a.v a.first a.stop a.len c.requires k.result k.ensures p.0.0 p.0.1.0 p.0.1.1.0 p.1 w.result w.ensures c.if-not-listed_right.true
+    listed_wrong a.file.now a.spans.now a.v a.first a.stop a.len c.requires k.result k.ensures c.in-Ended.at c.in-Ended.blocks c.in-Ended.actual c.in-Ended.is w.result w.ensures (ap not c.if-not-listed_right.true)
 
 pub frames-r-requires : goal.frames-r-requires
 frames-r-requires c =
     let a = c.args in
     let k = c.codes-c in
-    let p = c.c-1.given in
-    (place_within a.file.now a.spans.now a.v a.first a.stop a.len c.requires k.result k.ensures p.0.0 p.0.1.0 p.0.1.1.0 p.1, c.requires.headed.within, c.requires.headed.many)
+    (place_within a.file.now a.spans.now a.v a.first a.stop a.len c.requires k.result k.ensures c.in-Ended.at c.in-Ended.blocks c.in-Ended.actual c.in-Ended.is, c.requires.headed.within, c.requires.headed.many)
 
 pub returns-in_default-r : goal.returns-in_default-r
 returns-in_default-r c =
     let a = c.args in
     let k = c.codes-c in
-    let p = c.c-1.given in
     let r = c.frames-r in
-    frames_wrong a.file.now a.spans.now a.v a.first a.stop a.len c.requires k.result k.ensures p.0.0 p.0.1.0 p.0.1.1.0 p.1 r.result r.ensures.0 r.ensures.1 c.in_default-r.is
+    frames_wrong a.file.now a.spans.now a.v a.first a.stop a.len c.requires k.result k.ensures c.in-Ended.at c.in-Ended.blocks c.in-Ended.actual c.in-Ended.is r.result r.ensures.0 r.ensures.1 c.in_default-r.is
 
 pub returns-then-not-changing : goal.returns-then-not-changing
 returns-then-not-changing c =
     let a = c.args in
     let k = c.codes-c in
-    let p = c.c-1.given in
     let r = c.frames-r in
-    let q = c.r-1.given in
     let w = c.changing in
-    changing_wrong a.file.now a.spans.now a.v a.first a.stop a.len c.requires k.result k.ensures p.0.0 p.0.1.0 p.0.1.1.0 p.1 r.result r.ensures.0 r.ensures.1 q.0.0 q.0.1.0 q.1 w.result w.ensures c.if-not-changing.true
+    changing_wrong a.file.now a.spans.now a.v a.first a.stop a.len c.requires k.result k.ensures c.in-Ended.at c.in-Ended.blocks c.in-Ended.actual c.in-Ended.is r.result r.ensures.0 r.ensures.1 c.in-Ended-r.ends_at c.in-Ended-r.tally c.in-Ended-r.is w.result w.ensures (ap not c.if-not-changing.true)
 
 pub ends-e-requires : goal.ends-e-requires
 ends-e-requires c =
     let a = c.args in
     let k = c.codes-c in
-    let p = c.c-1.given in
     let r = c.frames-r in
-    let q = c.r-1.given in
-    (last_within a.file.now a.spans.now a.v a.first a.stop a.len c.requires k.result k.ensures p.0.0 p.0.1.0 p.0.1.1.0 p.1 r.result r.ensures.0 r.ensures.1 q.0.0 q.0.1.0 q.1, c.requires.headed.within, c.requires.headed.many)
+    (last_within a.file.now a.spans.now a.v a.first a.stop a.len c.requires k.result k.ensures c.in-Ended.at c.in-Ended.blocks c.in-Ended.actual c.in-Ended.is r.result r.ensures.0 r.ensures.1 c.in-Ended-r.ends_at c.in-Ended-r.tally c.in-Ended-r.is, c.requires.headed.within, c.requires.headed.many)
 
 pub returns-in_default-e : goal.returns-in_default-e
 returns-in_default-e c =
     let a = c.args in
     let k = c.codes-c in
-    let p = c.c-1.given in
     let r = c.frames-r in
-    let q = c.r-1.given in
     let e = c.ends-e in
-    ends_wrong a.file.now a.spans.now a.v a.first a.stop a.len c.requires k.result k.ensures p.0.0 p.0.1.0 p.0.1.1.0 p.1 r.result r.ensures.0 r.ensures.1 q.0.0 q.0.1.0 q.1 e.result e.ensures c.in_default-e.is
+    ends_wrong a.file.now a.spans.now a.v a.first a.stop a.len c.requires k.result k.ensures c.in-Ended.at c.in-Ended.blocks c.in-Ended.actual c.in-Ended.is r.result r.ensures.0 r.ensures.1 c.in-Ended-r.ends_at c.in-Ended-r.tally c.in-Ended-r.is e.result e.ensures c.in_default-e.is
 
 pub returns : goal.returns
 returns c =
     let a = c.args in
     let k = c.codes-c in
-    let p = c.c-1.given in
     let r = c.frames-r in
-    let q = c.r-1.given in
     let e = c.ends-e in
-    let m = c.e-1.given in
     let x = c.start_fits in
     let y = c.listed_right in
     let z = c.changing in
-    all_held a.file.now a.spans.now a.v a.first a.stop a.len c.requires k.result k.ensures p.0.0 p.0.1.0 p.0.1.1.0 p.1 r.result
-    r.ensures.0 r.ensures.1 q.0.0 q.0.1.0 q.1 e.result e.ensures x.result y.result z.result x.ensures c.if-not-start_fits.false
-    y.ensures c.if-not-listed_right.false z.ensures c.if-not-changing.false m.0.0 m.1
+    all_held a.file.now a.spans.now a.v a.first a.stop a.len c.requires k.result k.ensures c.in-Ended.at c.in-Ended.blocks c.in-Ended.actual c.in-Ended.is r.result
+    r.ensures.0 r.ensures.1 c.in-Ended-r.ends_at c.in-Ended-r.tally c.in-Ended-r.is e.result e.ensures x.result y.result z.result x.ensures (ap not c.if-not-start_fits.false)
+    y.ensures c.if-not-listed_right.false z.ensures c.if-not-changing.false c.in-Good.count c.in-Good.is
