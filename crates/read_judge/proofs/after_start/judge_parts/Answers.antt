@@ -89,4 +89,4 @@ returns c =
     let z = c.changing in
     all_held a.file.now a.spans.now a.v a.first a.stop a.len c.requires k.result k.ensures c.in-Ended.at c.in-Ended.blocks c.in-Ended.actual c.in-Ended.is r.result
     r.ensures.0 r.ensures.1 c.in-Ended-r.ends_at c.in-Ended-r.tally c.in-Ended-r.is e.result e.ensures x.result y.result z.result x.ensures (ap not c.if-not-start_fits.false)
-    y.ensures c.if-not-listed_right.false z.ensures c.if-not-changing.false c.in-Good.count c.in-Good.is
+    y.ensures (ap not c.if-not-listed_right.false) z.ensures (ap not c.if-not-changing.false) c.in-Good.count c.in-Good.is
