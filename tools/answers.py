@@ -288,7 +288,7 @@ class Turn:
         # a test of what is not so says it plainly now
         text = re.sub(r"\(?\bnot_(?:taken|left) (?:[^\s()]+|\([^()]*\)) (" + root + r"\.if-not-[^\s()]+?\.(?:true|false))(?![\w.])(\)?)", lambda it: ("(" if it[0].startswith("(") and not it[2] else "") + it[1] + (it[2] if it[2] and not it[0].startswith("(") else ""), text)
         for it in aliases:
-            text = re.sub(r" *let " + re.escape(it) + r" = \S+\.given in\s*?\n", "", text) if not re.search(r"(?<![\w.'-])" + re.escape(it) + r"\.", text) else text
+            text = re.sub(r"let " + re.escape(it) + r" = \S+\.given in\s*", "", text) if not re.search(r"(?<![\w.'-])" + re.escape(it) + r"\.", text) else text
         # a name for what is now the record itself
         again = True
         while again:

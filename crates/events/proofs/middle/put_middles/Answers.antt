@@ -68,13 +68,13 @@ bounds-places-t c = omega (arith, c.loop-t-test.true, c.requires.2)
 
 pub overflow_add-p : goal.overflow_add-p
 overflow_add-p c = omega (
-      arith,
-      c.loop-t-test.true,
-      c.requires.3.fits c.loop-t.t c.loop-t-test.true,
-      front ((goal.at.overflow_add-p c).Start)
-          c.loop-t.t,
-      c.well_formed,
-    )
+  arith,
+  c.loop-t-test.true,
+  c.requires.3.fits c.loop-t.t c.loop-t-test.true,
+  front ((goal.at.overflow_add-p c).Start)
+      c.loop-t.t,
+  c.well_formed,
+)
 
 pub overflow_add-t : goal.overflow_add-t
 overflow_add-t c = omega (arith, c.loop-t-test.true)

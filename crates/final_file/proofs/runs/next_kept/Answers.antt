@@ -14,15 +14,14 @@ returns-then-mask-k-eq0 c =
     record { low = c.loop-k.invariant.0; high = c.loop-k.invariant.1; lost = c.loop-k.invariant.2; kept = λ h. c.if-mask-k-eq0.true }
 
 pub loop-k-preserved : goal.loop-k-preserved
-loop-k-preserved c =
-    (
-      omega arith,
-      omega arith,
-      λ j a b. elim (ℕ_discrete j c.loop-k.k) [
-        | yes e ↦ λ z. c.if-mask-k-eq0.false (ap (λ (q : ℕ). get_or c.args.mask.now q 0) (sym e) ∙ z)
-        | no n ↦ c.loop-k.invariant.2 j a (omega (arith, n))
-      ],
-    )
+loop-k-preserved c = (
+  omega arith,
+  omega arith,
+  λ j a b. elim (ℕ_discrete j c.loop-k.k) [
+    | yes e ↦ λ z. c.if-mask-k-eq0.false (ap (λ (q : ℕ). get_or c.args.mask.now q 0) (sym e) ∙ z)
+    | no n ↦ c.loop-k.invariant.2 j a (omega (arith, n))
+  ],
+)
 
 pub returns : goal.returns
 returns c =

@@ -34,9 +34,8 @@ pub overflow_mul-result : goal.overflow_mul-result
 overflow_mul-result c = omega (arith, rows_small _ c.args.size (rows_few _ c.args.family _ c.args.i c.requires.0 (ranges (goal.at.overflow_mul-result c).Else-size-eq0) c.requires.4) c.requires.3)
 
 pub returns : goal.returns
-returns c =
-    (
-      ap (λ (k : ℕ). (get_or c.args.offsets.now (c.args.i + 1) 0 - get_or c.args.offsets.now c.args.i 0) * k) c.requires.2,
-      rows_small _ c.args.size (rows_few _ c.args.family _ c.args.i c.requires.0 (ranges (goal.at.returns c).Else-size-eq0)
-          c.requires.4) c.requires.3,
-    )
+returns c = (
+  ap (λ (k : ℕ). (get_or c.args.offsets.now (c.args.i + 1) 0 - get_or c.args.offsets.now c.args.i 0) * k) c.requires.2,
+  rows_small _ c.args.size (rows_few _ c.args.family _ c.args.i c.requires.0 (ranges (goal.at.returns c).Else-size-eq0)
+      c.requires.4) c.requires.3,
+)

@@ -25,11 +25,10 @@ shape_of-bytes c =
     c.loop-i.invariant.1
 
 pub returns : goal.returns
-returns c =
-    (
-      c.loop-i.invariant.1,
-      λ j. elim (dec_lt j (length c.loop-i.bytes)) [
-        | yes h ↦ c.loop-i.invariant.2 j (omega arith)
-        | no r ↦ get_or-eq_default c.loop-i.bytes 0 {n = j} (omega (arith, r))
-      ],
-    )
+returns c = (
+  c.loop-i.invariant.1,
+  λ j. elim (dec_lt j (length c.loop-i.bytes)) [
+    | yes h ↦ c.loop-i.invariant.2 j (omega arith)
+    | no r ↦ get_or-eq_default c.loop-i.bytes 0 {n = j} (omega (arith, r))
+  ],
+)

@@ -11,14 +11,13 @@ use Rattle.final_rows.proofs.windows.lost_len.Goals as goal
 use Rattle.final_rows.proofs.windows.lost_len.Goals.{After-window_len-n}
 
 pub loop-base-init : goal.loop-base-init
-loop-base-init c =
-    (
-      c.scratch_len-need.ensures,
-      omega arith,
-      sym
-          (window_first (λ i. place (get_or c.args.ids.now i 0)) (is_lost c.args.ids.now) (length_of c.args.f (offsets c.args.item_offsets.now c.args.fod_offsets.now c.args.whispy_offsets.now c.args.stadium_offsets.now) c.args.presence.now) (length
-          c.args.ids.now)),
-    )
+loop-base-init c = (
+  c.scratch_len-need.ensures,
+  omega arith,
+  sym
+      (window_first (λ i. place (get_or c.args.ids.now i 0)) (is_lost c.args.ids.now) (length_of c.args.f (offsets c.args.item_offsets.now c.args.fod_offsets.now c.args.whispy_offsets.now c.args.stadium_offsets.now) c.args.presence.now) (length
+      c.args.ids.now)),
+)
 
 pub window_len-n-requires : goal.window_len-n-requires
 window_len-n-requires c =

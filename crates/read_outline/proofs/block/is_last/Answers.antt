@@ -11,12 +11,11 @@ pub get_be-used-requires : goal.get_be-used-requires
 get_be-used-requires c = (omega arith, omega (arith, c.is_block.ensures.1 c.if-is_block.true))
 
 pub returns-then-used-gt0 : goal.returns-then-used-gt0
-returns-then-used-gt0 c =
-    (
-      last_as _ _ _ _ _ c.is_block.ensures.0 _ c.if-is_block.true c.if-file-at-eq1.true _ c.has_codes.ensures c.if-has_codes.true _ c.get_be-used.ensures
-          c.if-used-gt0.true,
-      λ q. (c.is_block.ensures.1 c.if-is_block.true, last_few _ _ _ _ _ c.is_block.ensures.0 _ c.if-is_block.true c.if-file-at-eq1.true _ c.has_codes.ensures c.if-has_codes.true _ c.get_be-used.ensures q),
-    )
+returns-then-used-gt0 c = (
+  last_as _ _ _ _ _ c.is_block.ensures.0 _ c.if-is_block.true c.if-file-at-eq1.true _ c.has_codes.ensures c.if-has_codes.true _ c.get_be-used.ensures
+      c.if-used-gt0.true,
+  λ q. (c.is_block.ensures.1 c.if-is_block.true, last_few _ _ _ _ _ c.is_block.ensures.0 _ c.if-is_block.true c.if-file-at-eq1.true _ c.has_codes.ensures c.if-has_codes.true _ c.get_be-used.ensures q),
+)
 
 pub returns-else-used-gt0 : goal.returns-else-used-gt0
 returns-else-used-gt0 c =

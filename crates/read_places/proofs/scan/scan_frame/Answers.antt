@@ -68,12 +68,11 @@ loop-on-smaller c =
     let w = some_whole _ _ _ _ l.0.some g.before in omega (arith, c.span_of-e.ensures, w.long, g.before)
 
 pub loop-on-preserved : goal.loop-on-preserved
-loop-on-preserved c =
-    (
-      (scan_more _ _ _ _ _ _ _ _ _ _ c.requires.0 c.loop-on.invariant.2 c.loop-on.invariant.0 (c.loop-on.invariant.1 c.loop-on-test.true) c.note-j-in-loop-on.ensures.0 c.note-j-in-loop-on.ensures.1 c.span_of-e.ensures),
-      c.stays-on-in-loop-on.ensures,
-      c.loop-on.invariant.2,
-    )
+loop-on-preserved c = (
+  (scan_more _ _ _ _ _ _ _ _ _ _ c.requires.0 c.loop-on.invariant.2 c.loop-on.invariant.0 (c.loop-on.invariant.1 c.loop-on-test.true) c.note-j-in-loop-on.ensures.0 c.note-j-in-loop-on.ensures.1 c.span_of-e.ensures),
+  c.stays-on-in-loop-on.ensures,
+  c.loop-on.invariant.2,
+)
 
 pub shape_of-places : goal.shape_of-places
 shape_of-places c =

@@ -1,0 +1,16 @@
+-- The invariant: the events so far bring nothing.
+use mathlib.Core.Path.{refl, sym, ◌∙◌}
+use Prim.Native.Nat.{◌-◌}
+use native.Mathlib.Omega.{arith}
+use Rattle.newer_rows.proofs.Passing.{Passing, passing_first, passing_more, passing_span, passed_row, passed_all}
+use Rattle.newer_rows.proofs.pass.next_row.Reads as reads
+use Rattle.newer_rows.proofs.pass.next_row.Lts as lts
+use Rattle.newer_rows.proofs.pass.is_row.Reads as is-row-reads
+use Rattle.read_scan.proofs.event.span_of.Reads as span-of-reads
+use Rattle.newer_rows.proofs.pass.next_row.Given as goal
+
+abbrev pub invariant-loop-e : goal.invariant-loop-e
+invariant-loop-e l = Passing l.file l.spans l.at l.stop l.e
+
+abbrev pub decreases-loop-e : goal.decreases-loop-e
+decreases-loop-e l = l.stop - l.e
