@@ -267,7 +267,8 @@ class Turn:
                 tail[:told] = arm.split(".")
             elif step:
                 tail[0] = step
-                if len(tail) > 1:
+                loops = {loop[0][1] for loop in self.names.of["loops"]}
+                if len(tail) > 1 and not (step in loops and tail[1] in ("taken", "left")):
                     tail[1] = FIELDS.get(tail[1], tail[1])
             if tail[0] in FIELDS and not step and not told:
                 tail[0] = FIELDS[tail[0]]

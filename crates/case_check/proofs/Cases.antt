@@ -201,7 +201,7 @@ swapped = file_of (one 0x36 320 ∷ one 0x38 33 ∷ one 0x37 58 ∷ one 0x39 1 �
 second_listed : (f : List ℕ) (x : SoundEvents f) → version_of f ≡ old → get_or (codes (table_of f)) 1 0 ≡ 0x37
 unfolding entries_of chosen listed payload_size has_family gte_of above
 second_listed f x e =
-    ap (λ (t : List Entry). get_or (codes t) 1 0) (read.table_is f x ∙ ap (λ (v : Version). table_for v x.listed x.replay) (sym (read.version_is f x) ∙ e)) ∙ go x.listed
+    ap (λ (t : List Entry). get_or (codes t) 1 0) (read.table_is_lem f x ∙ ap (λ (v : Version). table_for v x.listed x.replay) (sym (read.version_is f x) ∙ e)) ∙ go x.listed
   where
     go : (g : Bool) → get_or (codes (table_for old g x.replay)) 1 0 ≡ 0x37
     go true = refl
@@ -218,7 +218,7 @@ longer = file_of (one 0x36 320 ∷ one 0x37 58 ∷ one 0x38 33 ∷ one 0x39 1 �
 four_listed : (f : List ℕ) (x : SoundEvents f) → version_of f ≡ old → length (table_of f) ≡ 4
 unfolding entries_of chosen listed payload_size has_family gte_of above
 four_listed f x e =
-    ap length (read.table_is f x ∙ ap (λ (v : Version). table_for v x.listed x.replay) (sym (read.version_is f x) ∙ e)) ∙ go x.listed
+    ap length (read.table_is_lem f x ∙ ap (λ (v : Version). table_for v x.listed x.replay) (sym (read.version_is f x) ∙ e)) ∙ go x.listed
   where
     go : (g : Bool) → length (table_for old g x.replay) ≡ 4
     go true = refl

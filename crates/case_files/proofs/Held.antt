@@ -112,7 +112,7 @@ module _ {g : Game} {s : Stores} {r : Replay} (p : Passed g s) (h : Holds g s r)
 
   table_is_lem : table_of f ≡ entries g s
   unfolding file
-  table_is_lem = parts.table_is (entries g s) (events g s) tail (fresh p) (length_fits p)
+  table_is_lem = parts.table_is_lem (entries g s) (events g s) tail (fresh p) (length_fits p)
 
   tail_is : drop (stop_of f) f ≡ tail
   unfolding file

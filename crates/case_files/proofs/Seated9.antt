@@ -206,4 +206,4 @@ size_back = returned.actual_size
 
 -- and written again it is the same file
 game_back_lem : file (game_read f tree) (stores_read f tree) ≡ f
-game_back_lem = again.game-back admitted
+game_back_lem = again.game_back_lem admitted

@@ -148,7 +148,7 @@ module _ {g : Game} {s : Stores} (a : Admitted g s) (bytes : Bytes (file g s))
         all_blocks v c cs r.codes rest m good (in_file.well a).codes (ap (λ (l : List Block). (codes_events l ++ rest) ++ m) (sym e) ∙ sym (ap (drop 1) h))
 
     never : ⊥
-    never = go (frames.stands-in a ended bytes q b)
+    never = go (frames.stands_in_lem a ended bytes q b)
       where
         go : Where v r (events_of v x) → ⊥
         go (before p) =

@@ -123,7 +123,7 @@ module _ {g : Game} {s : Stores} (a : Admitted g s) (ended : has_family g.frames
     events_x = all_are ∙ ap (λ (w : Version). events_of w x) version_is
 
     pub at_place : q ≡ first_place (entries g s) + length (events_bytes (events_of v x))
-    at_place = omega (arith, part.long, stop, first, ap first_place (in_file.table_is a), ap (λ (l : List Ev). length (events_bytes l)) events_x)
+    at_place = omega (arith, part.long, stop, first, ap first_place (in_file.table_is_lem a), ap (λ (l : List Ev). length (events_bytes l)) events_x)
 
     pub stands_in_lem : Where v r (events_of v x)
     stands_in_lem = where_ends v ended r x begun.rest (sym ((in_file.walked a).2 ∙ same g s) ∙ begun.is ∙ ap (λ (l : List Ev). l ++ begun.rest) events_x)

@@ -258,7 +258,7 @@ module _ {g : Game} {s : Stores} (a : Admitted g s) where
         (sym (early_by f (early_done f (in_file.not_early a))) ∙ in_file.not_early a)
 
     table_is_lem : table_of h ≡ table_of f
-    table_is_lem = parts.table_is t xs tail (fresh (in_file.p a)) fits ∙ sym (in_file.table_is a)
+    table_is_lem = parts.table_is_lem t xs tail (fresh (in_file.p a)) fits ∙ sym (in_file.table_is_lem a)
 
     early_h : early_refusal h ≡ 0
     early_h = early_by h done ∙ judged

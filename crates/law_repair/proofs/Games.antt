@@ -181,7 +181,7 @@ module _ {g : Game} {s : Stores} (a : Admitted g s) where
           let field : part other 11 4 ≡ w = ap (part other 11) (sym four) ∙ part_splice f 11 w (omega (arith, long, four)) in
           let ends = ending_same f w long four end ∙ ending_itself f bytes accepted in
           let read = ap (λ (h : List ℕ). length (events_read h)) ends ∙ ap length (in_file.walked a).2 in
-          let first = ap first_place (ap table_of (zeroed_same f w long four) ∙ zero_table f long ∙ in_file.table_is a) in
+          let first = ap first_place (ap table_of (zeroed_same f w long four) ∙ zero_table f long ∙ in_file.table_is_lem a) in
           let n : end - 15 ≡ declared f = omega arith in
           let none = dropped_same f w long four end ∙ none_dropped in
           λ i. record {

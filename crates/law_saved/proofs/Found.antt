@@ -108,7 +108,7 @@ module _ {g : Game} {s : Stores} (a : Admitted g s) where
 
   pub table_is_lem : table_of f ≡ entries g s
   unfolding file
-  table_is_lem = parts.table_is (entries g s) (events g s) (tail_of (yes g.metadata_given) s.metadata) (fresh p) (length_fits p)
+  table_is_lem = parts.table_is_lem (entries g s) (events g s) (tail_of (yes g.metadata_given) s.metadata) (fresh p) (length_fits p)
 
   -- it is not refused, all of the event data is there, and its events are the game's
   pub walked : ((walk_numbers (walk_of f)).kind ≡ 0) × (all_present f ≡ true) × (events_read f ≡ events g s)

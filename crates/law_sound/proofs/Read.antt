@@ -59,7 +59,7 @@ module _ (f : List ℕ) (x : SoundEvents f) where
   present = ap all_present x.file_is ∙ parts.whole t es x.tail fresh x.fits
 
   pub table_is_lem : table_of f ≡ t
-  table_is_lem = ap table_of x.file_is ∙ parts.table_is t es x.tail fresh x.fits
+  table_is_lem = ap table_of x.file_is ∙ parts.table_is_lem t es x.tail fresh x.fits
 
   pub tail_is : drop (stop_of f) f ≡ x.tail
   tail_is = ap (λ (g : List ℕ). drop (stop_of g) g) x.file_is ∙ parts.tail_is t es x.tail fresh x.fits

@@ -17,12 +17,12 @@ pub pass-requires : goal.pass-requires
 pass-requires c =
     let a = c.args in
     let h = c.requires in
-    let t = c.put_all_lem.ensures in
-    let e = newer_plan a.f a.z c.put_all_lem.result _ t h.1 in
+    let t = c.put_all-borders.ensures in
+    let e = newer_plan a.f a.z c.put_all-borders.result _ t h.1 in
     (row_spans_are (plan_of a.f) _ _ h.0 e, refl, h.2, h.3, row_rooms_as _ _ _ e h.4, t.parted)
 
 pub returns : goal.returns
 returns c =
     let a = c.args in
-    let e = newer_plan a.f a.z c.put_all_lem.result _ c.put_all_lem.ensures c.requires.1 in
+    let e = newer_plan a.f a.z c.put_all-borders.result _ c.put_all-borders.ensures c.requires.1 in
     λ es x. c.pass.ensures es x ∙ rows_run_as _ _ es (rows a.ids.now a.starts.now a.ends.now a.items.now a.fods.now a.whispys.now a.stadiums.now a.item_offsets.now a.fod_offsets.now a.whispy_offsets.now a.stadium_offsets.now) e
