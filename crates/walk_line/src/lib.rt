@@ -1,13 +1,15 @@
 // The one line that the program `walk` prints of its input.
 #![tactic(auto)]
 
-ghost use Rattle.std.specs.Prelude.{◌≡◌, ◌+◌, ◌≤◌, ◌<◌, length, take};
+ghost use Rattle.std.specs.Prelude.{◌≡◌, ℕ, ◌+◌, ◌≤◌, ◌<◌, List, length, take, IfOk, OnOk, IfSome};
+ghost use Rattle.std.specs.Io.KnownBytes.{Appends, Consumes, IsAtEnd};
 ghost use Rattle.io.specs.Counts.{IsPrefixLen};
 ghost use Rattle.wire.specs.Wire.{Wrote};
 ghost use Rattle.walk_line.specs.Line.{input_of, Decimal, Pair, state, Line, Put};
 
 use de::Walked;
 use format::refusal::LONG_INPUT;
+use std::io::{Read, Write};
 
 // The most bytes that an input may have.
 const LONGEST: usize = 65536;
@@ -106,4 +108,36 @@ pub fn report_read(buffer: &[u8], n: usize, out: &mut [u8]) -> usize
     ensures put { Put (Line (input_of (take n buffer.now))) out.old out.new 0 result }
 {
     report(&buffer[..n], out)
+}
+
+// Reads until the input ends or the buffer is full, and answers how many bytes it put at the start of the buffer. A read that fails ends it.
+pub fn read_input<R: Read>(input: &mut R, buffer: &mut [u8]) -> std::io::Result<usize>
+    ensures prefix_len { IfOk result (λ n. IsPrefixLen n buffer.new) }
+    ensures taken { IfOk result (λ n. Consumes (R.remaining input.old) (R.remaining input.new) (take n buffer.new)) }
+    ensures ended { IfOk result (λ n. n < length buffer.new → IsAtEnd (R.remaining input.new)) }
+{
+    let mut done = 0;
+    while done < buffer.len() {
+        let n = input.read(&mut buffer[done..])?;
+        if n == 0 {
+            break;
+        }
+        done += n;
+    }
+    Ok(done)
+}
+
+// The program `walk`: reads an input, and writes its line. The buffer is as `report_read` asks for it.
+pub fn answer<R: Read, W: Write>(
+    input: &mut R,
+    buffer: &mut [u8],
+    output: &mut W,
+) -> std::io::Result<()>
+    requires { 65536 < length buffer.old }
+    ensures { OnOk result (IfSome (R.remaining input.old) (λ f. (x : List ℕ) × Line (input_of f) x × Appends (W.contents output.old) (W.contents output.new) x)) }
+{
+    let n = read_input(input, buffer)?;
+    let mut text = [0u8; 64];
+    let k = report_read(buffer, n, &mut text);
+    output.write_all(&text[..k])
 }

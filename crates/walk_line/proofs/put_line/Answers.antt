@@ -1,4 +1,3 @@
-use borrow.Author.Rules.{rules}
 use Rattle.walk_line.proofs.put_line.Goals as goal
 
 pub returns-in-Done : goal.returns-in-Done

@@ -1,6 +1,5 @@
 use native.Mathlib.Omega.{arith}
 use Rattle.walk_line.proofs.Laws.{put_refused}
-use borrow.Author.Rules.{rules}
 use Rattle.walk_line.proofs.put_refusal.Goals as goal
 
 pub returns : goal.returns

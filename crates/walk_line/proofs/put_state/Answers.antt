@@ -1,5 +1,4 @@
 use native.Mathlib.Omega.{arith}
-use borrow.Author.Rules.{rules}
 use Rattle.walk_line.proofs.put_state.Goals as goal
 
 pub returns-then-whole : goal.returns-then-whole

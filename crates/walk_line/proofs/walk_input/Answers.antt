@@ -1,4 +1,3 @@
-use borrow.Author.Rules.{rules}
 use Rattle.walk_line.proofs.Laws.{too_long_lem, short_enough}
 use Rattle.walk_line.proofs.walk_input.Goals as goal
 
