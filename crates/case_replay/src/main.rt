@@ -4,7 +4,8 @@
 
 use de::Walked;
 use head::Step;
-use libc::{STDIN_FILENO, STDOUT_FILENO};
+use std::io;
+use std::io::Read;
 
 // What a walk found. The state is 1 at the data's end, 2 at a cut, and the number of a refusal, which has an offset and nothing else.
 #[derive(Clone, Copy)]
@@ -135,51 +136,53 @@ fn agreed(file: &[u8]) -> usize {
     n
 }
 
-fn put(n: usize, after: &[u8]) {
-    io::print_decimal(STDOUT_FILENO, n as u64);
-    io::write_all(STDOUT_FILENO, after);
-}
-
 // State, offset, events and place, and at how many cuts both said the same.
-fn show(file: &[u8]) {
+fn show(rt: &impl Print, file: &[u8]) -> io::Result<()> {
     let v = by_value(file);
-    put(v.state as usize, b" ");
-    put(v.offset, b" ");
-    put(v.events, b" ");
-    put(v.place, b", ");
-    put(agreed(file), b" of ");
-    put(file.len(), b"\n");
+    let n = agreed(file);
+    println!(rt;
+        "{} {} {} {}, {n} of {}",
+        v.state,
+        v.offset,
+        v.events,
+        v.place,
+        file.len()
+    )
 }
 
 // The same with another byte at a place.
-fn show_changed(file: &mut [u8], at: usize, byte: u8) {
+fn show_changed(rt: &impl Print, file: &mut [u8], at: usize, byte: u8) -> io::Result<()> {
     if at < file.len() {
         let old = file[at];
         file[at] = byte;
-        show(file);
+        let shown = show(rt, file);
         file[at] = old;
+        shown?;
     }
+    Ok(())
 }
 
 // The same with a length below 65,536 that was never filled in.
-fn show_unfilled(file: &mut [u8]) {
+fn show_unfilled(rt: &impl Print, file: &mut [u8]) -> io::Result<()> {
     if 13 < file.len() {
         let high = file[13];
         file[13] = 0;
-        show_changed(file, 14, 0);
+        let shown = show_changed(rt, file, 14, 0);
         file[13] = high;
+        shown?;
     }
+    Ok(())
 }
 
-fn main() {
-    let mut buffer = [0u8; 4096];
-    let n = io::read_full(STDIN_FILENO, &mut buffer);
-    let file = &mut buffer[..n];
-    show(file);
+fn main(rt: HostRuntime) -> io::Result<()> {
+    let mut input = Vec::new(rt.alloc());
+    rt.stdin().take(4096).read_to_end(&mut input)?;
+    let file = input.as_mut_slice();
+    show(&rt, file)?;
     // No replay; a code twice; a code that the table lacks, at the second event; a declared length that is one too small.
-    show_changed(file, 0, 0x7c);
-    show_changed(file, 20, 0x36);
-    show_changed(file, 350, 0x40);
-    show_changed(file, 14, 0xf2);
-    show_unfilled(file);
+    show_changed(&rt, file, 0, 0x7c)?;
+    show_changed(&rt, file, 20, 0x36)?;
+    show_changed(&rt, file, 350, 0x40)?;
+    show_changed(&rt, file, 14, 0xf2)?;
+    show_unfilled(&rt, file)
 }
