@@ -92,8 +92,8 @@ no_seats : (start_in (version 0 1 0) block).seats ≡ replicate 4 no_seat
 unfolding start_in seat_in ranged
 no_seats = refl
 
-no_end : (game_read smallest empty).end ≡ no_end
-no_end = refl
+no_end_lem : (game_read smallest empty).end ≡ no_end
+no_end_lem = refl
 
 marks : (game_read smallest empty).double_end ∷ (game_read smallest empty).codes_given ∷ (game_read smallest empty).metadata_given ∷ (game_read smallest empty).actual_size ∷ []
     ≡ 0 ∷ 0 ∷ 0 ∷ 0 ∷ []

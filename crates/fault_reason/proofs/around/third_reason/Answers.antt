@@ -1,0 +1,11 @@
+use mathlib.Core.Path.{refl}
+use borrow.Author.Tests.{eq-eqb, ne_eqb}
+use Rattle.fault_reason.proofs.Laws.{if_so, if_not}
+use borrow.Author.Rules.{rules}
+use Rattle.fault_reason.proofs.around.third_reason.Goals as goal
+
+pub returns-then-code-eq-GAME_END : goal.returns-then-code-eq-GAME_END
+returns-then-code-eq-GAME_END c = if_so _ _ _ _ (eq-eqb _ _ c.if-code-eq-GAME_END.true) refl
+
+pub returns : goal.returns
+returns c = if_not _ _ _ _ (ne_eqb _ _ c.if-code-eq-GAME_END.false) c.other_reason.ensures
