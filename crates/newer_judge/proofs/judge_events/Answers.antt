@@ -33,8 +33,7 @@ returns-then-not-whole c =
 pub judge_parts-j-requires : goal.judge_parts-j-requires
 judge_parts-j-requires c =
     let a = c.args in
-    let e = c.first_event-e in
-    (
+    let e = c.first_event-e in (
       ready a.file.now a.spans.now a.first a.stop a.whole c.requires c.in-Opens.version c.in-Opens.len e.result e.ensures c.in-Opens.is (omega (arith, c.if-version-gt3.false)) c.if-not-whole.false,
       indexed a.file.now a.spans.now a.first a.stop a.whole c.requires,
       is_newer_lem a.file.now a.spans.now a.first a.stop a.whole c.requires c.in-Opens.version c.in-Opens.len e.result e.ensures c.in-Opens.is (omega (arith, c.if-version-gt3.false)),

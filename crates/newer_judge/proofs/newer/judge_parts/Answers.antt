@@ -46,8 +46,7 @@ returns-then-not-listed_right c =
 pub frames-r-requires : goal.frames-r-requires
 frames-r-requires c =
     let a = c.args in
-    let k = c.codes-c in
-    (
+    let k = c.codes-c in (
       c.requires.2,
       c.requires.1.many,
       within a.file.now a.spans.now a.v a.first a.stop a.len c.requires,
@@ -65,8 +64,7 @@ pub ends-e-requires : goal.ends-e-requires
 ends-e-requires c =
     let a = c.args in
     let k = c.codes-c in
-    let r = c.frames-r in
-    (
+    let r = c.frames-r in (
       c.requires.2,
       c.requires.1.many,
       within a.file.now a.spans.now a.v a.first a.stop a.len c.requires,
