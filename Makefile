@@ -48,12 +48,13 @@ lib target/staticlib/libslp.a:
 	@mkdir -p target/staticlib
 	cp crates/slp/out/libslp.a target/staticlib/libslp.a
 
-# The same objects; only the calls of slp.h are seen from outside (slp.map), and it needs nothing but C's library.
+# The same objects; only the calls of slp.h are seen from outside (slp.map), and it needs nothing but C's library. Its other names are the same file: rt ci takes
+# no symbolic link anywhere in the checkout, so that tests remove theirs, too, once they have passed.
 $(SHARED): $(SLP_LIB) slp.map Makefile
 	@mkdir -p $(@D)
 	$(CC) -shared $(CFLAGS) $(LDFLAGS) -Wl,-z,defs -Wl,-soname,$(SONAME) -Wl,--version-script=slp.map -o $@ \
 		-Wl,--whole-archive $(SLP_LIB) -Wl,--no-whole-archive
-	@ln -sf $(@F) $(@D)/$(SONAME) && ln -sf $(SONAME) $(@D)/libslp.so
+	@ln -f $@ $(@D)/$(SONAME) && ln -f $@ $(@D)/libslp.so
 
 $(TOOL): $(TOOL_OBJECTS) $(SLP_LIB)
 	@mkdir -p $(@D)
@@ -167,11 +168,13 @@ tests: $(TESTS) $(TOOL)
 test: tests
 	@tests/agree.sh target/c/bin/listed
 	@VALGRIND='$(VALGRIND)' PROGRAMS='$(PROGRAMS)' FAULTED='$(FAULTED)' tests/c/run $(TOOL) $(SLP_LIB)
+	@find target/c -type l -delete
 
 # The examples of the documents, the man pages and the completions.
 test-documents: $(TOOL) man
 	@tests/documents.py target/documents README.md docs/API.md
 	@tests/man.sh target/man $(TOOL)
+	@find target/documents -type l -delete
 
 test-rust: $(SLP_LIB) target/c/bin/dying.so
 	@tests/rust.sh $(SLP_LIB)
@@ -183,6 +186,7 @@ python: $(SHARED)
 
 test-python: python $(TOOL)
 	@PYTHON='$(PYTHON)' tests/python/run $(TOOL)
+	@find target/python target/documents -type l -delete
 
 # Made anew each time: another PREFIX may be asked for.
 target/slp.pc: slp.pc.in always
@@ -234,6 +238,7 @@ package: dist
 
 test-package: package
 	@tests/package.sh target/package
+	@find target/package -type l -delete
 
 clean:
 	rm -rf target/c target/shared target/python target/man target/dist target/package target/documents target/slp.pc $(TOOL)
