@@ -42,17 +42,19 @@ TESTS := $(PROGRAMS:%=target/c/bin/%) target/c/bin/header_examples target/c/bin/
 
 all: $(SLP_LIB) $(SHARED) $(TOOL)
 
-# The crates that it stands on are proved first, side by side: on its own `rt staticlib` proves one after another. It proves slp itself.
+# slp and the crates that it stands on are proved first, side by side: on its own `rt lib` proves one after another. What is proved already is not proved again.
 lib target/staticlib/libslp.a:
-	RT_JOBS=$$(.ci/jobs) rt check $$(sed -n 's/^slp: *//p' crates.txt)
-	rt staticlib slp
+	jobs=$$(.ci/jobs) && cd crates/slp && rt all check --jobs $$jobs && rt lib
+	@mkdir -p target/staticlib
+	cp crates/slp/out/libslp.a target/staticlib/libslp.a
 
-# The same objects; only the calls of slp.h are seen from outside (slp.map), and it needs nothing but C's library.
+# The same objects; only the calls of slp.h are seen from outside (slp.map), and it needs nothing but C's library. Its other names are the same file: rt ci takes
+# no symbolic link anywhere in the checkout, so that tests remove theirs, too, once they have passed.
 $(SHARED): $(SLP_LIB) slp.map Makefile
 	@mkdir -p $(@D)
 	$(CC) -shared $(CFLAGS) $(LDFLAGS) -Wl,-z,defs -Wl,-soname,$(SONAME) -Wl,--version-script=slp.map -o $@ \
 		-Wl,--whole-archive $(SLP_LIB) -Wl,--no-whole-archive
-	@ln -sf $(@F) $(@D)/$(SONAME) && ln -sf $(SONAME) $(@D)/libslp.so
+	@ln -f $@ $(@D)/$(SONAME) && ln -f $@ $(@D)/libslp.so
 
 $(TOOL): $(TOOL_OBJECTS) $(SLP_LIB)
 	@mkdir -p $(@D)
@@ -166,11 +168,13 @@ tests: $(TESTS) $(TOOL)
 test: tests
 	@tests/agree.sh target/c/bin/listed
 	@VALGRIND='$(VALGRIND)' PROGRAMS='$(PROGRAMS)' FAULTED='$(FAULTED)' tests/c/run $(TOOL) $(SLP_LIB)
+	@find target/c -type l -delete
 
 # The examples of the documents, the man pages and the completions.
 test-documents: $(TOOL) man
 	@tests/documents.py target/documents README.md docs/API.md
 	@tests/man.sh target/man $(TOOL)
+	@find target/documents -type l -delete
 
 test-rust: $(SLP_LIB) target/c/bin/dying.so
 	@tests/rust.sh $(SLP_LIB)
@@ -182,6 +186,7 @@ python: $(SHARED)
 
 test-python: python $(TOOL)
 	@PYTHON='$(PYTHON)' tests/python/run $(TOOL)
+	@find target/python target/documents -type l -delete
 
 # Made anew each time: another PREFIX may be asked for.
 target/slp.pc: slp.pc.in always
@@ -214,25 +219,29 @@ uninstall:
 	rm -f $(DESTDIR)$(PREFIX)/bin/slp $(DESTDIR)$(PREFIX)/include/slp.h $(DESTDIR)$(LIBDIR)/pkgconfig/slp.pc
 	rm -f $(addprefix $(DESTDIR)$(LIBDIR)/,libslp.a libslp.so $(SONAME) libslp.so.$(VERSION)) $(addprefix $(SHARE)/,$(PAGES))
 
-# The sources, and beside them the library as rt made it, so that who has no rt can build all the rest. The same files give the same archive.
+# The sources, and beside them the library as rt made it, so that who has no rt can build all the rest. The same files give the same archive. Copies of the
+# crates do not stay, here and in `package`: `rt ci` takes no second crates.txt.
 DIST := slp-$(VERSION)
 dist: $(SLP_LIB)
 	rm -rf target/dist && mkdir -p target/dist/$(DIST)/target/staticlib
 	{ git ls-files -z --cached --others --exclude-standard || find . -path ./target -prune -o -type f -print0; } 2>/dev/null | xargs -0 cp --parents -t target/dist/$(DIST)
 	cp $(SLP_LIB) target/dist/$(DIST)/target/staticlib/libslp.a
 	tar -C target/dist --sort=name --owner=0 --group=0 --numeric-owner --mode=go=u-w --mtime="$$(git log -1 --format=%cI 2>/dev/null || date -Iseconds)" -c $(DIST) | gzip -9n > target/$(DIST).tar.gz
+	rm -rf target/dist
 
 # Debian packages of that archive; debian/rules takes the library from it.
 package: dist
 	rm -rf target/package && mkdir -p target/package
 	tar -C target/package -xzf target/$(DIST).tar.gz
-	cd target/package/$(DIST) && env -u MAKEFLAGS -u MFLAGS -u MAKELEVEL dpkg-buildpackage -b -us -uc > ../log 2>&1 || { cat ../log; exit 1; }
+	cd target/package/$(DIST) && env -u MAKEFLAGS -u MFLAGS -u MAKELEVEL dpkg-buildpackage -b -us -uc > ../log 2>&1 || { cat ../log; rm -rf ../$(DIST); exit 1; }
+	rm -rf target/package/$(DIST)
 
 test-package: package
 	@tests/package.sh target/package
+	@find target/package -type l -delete
 
 clean:
-	rm -rf target/c target/shared target/python target/man target/dist target/documents target/slp.pc $(TOOL)
+	rm -rf target/c target/shared target/python target/man target/dist target/package target/documents target/slp.pc $(TOOL)
 
 help:
 	@echo 'make            the library (by rt, where it is not there yet), libslp.so and the tool $(TOOL)'

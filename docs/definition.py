@@ -54,8 +54,8 @@ def defined(path):
     return found
 
 
-WORD = r"(?<![\w′·«».-]){}(?![\w′·«»-])"
-IMPORT = re.compile(r"^use Rattle·(\w+?)(?:·specs)?\.specs(?:\.specs)?\.(\w+)(?:\.\{([^}]*)\}| as ([\w-]+))$", re.M)
+WORD = r"(?<![\w'«».-]){}(?![\w'«»-])"
+IMPORT = re.compile(r"^(?:pub )?use Rattle\.(\w+)\.specs\.(\w+)(?:\.\{([^}]*)\}| as ([\w-]+))$", re.M)
 
 
 def uses(path, text):

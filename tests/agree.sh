@@ -29,7 +29,7 @@ agree 'the refusals of docs/API.md and include/slp.h' api header
 cut -d' ' -f1-3,5 $to/said >$to/columns
 # FAMILY from its name in the crates
 upper='function upper(f) { gsub(/[A-Z]/, "_&", f); return toupper(substr(f, 2)) } function named(n) { gsub(/\./, "_", n); return toupper(n) }'
-awk "$upper"' /^columnsOf .* =$/ { family = upper($2) }
+awk "$upper"' /^columns_of .* =$/ { family = upper($2) }
 	/^    col / { print family, named($NF), $2, $3 "." $4 }' crates/layout/specs/Columns.antt | sort -s -k1,1 >$to/definition
 agree 'the columns of slp_column and layout/specs/Columns.antt' columns definition
 # the table of the code has names beside its numbers, which are proved

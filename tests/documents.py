@@ -40,7 +40,7 @@ def transcripts(text: str) -> list[tuple[int, str, list[str]]]:
 
 
 def unbuilt(command: str) -> list[str]:
-    return [program for program in re.findall(r"\btarget/\S*bin/\S+", command) if not (ROOT / program).exists()]
+    return [program for program in re.findall(r"\b(?:target/\S*bin|crates/\w+/out)/\S+", command) if not (ROOT / program).exists()]
 
 
 def run(document: Path, folder: Path) -> int:

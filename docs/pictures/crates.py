@@ -9,7 +9,6 @@ import sys
 
 here = pathlib.Path(__file__).resolve().parent
 picture = here / "crates.svg"
-kits = {"io", "libc"}  # libraries of the compiler's, not crates of this project
 # fill and line, a chapter after another: what is shared is blue, what writes green to teal, what reads yellow to red, what is proved or run alone grey, what users touch violet
 colours = [
     ("#e8eef7", "#34507a"),
@@ -31,7 +30,7 @@ colours = [
 
 
 def chapters():
-    """The headings of crates.txt in order, each with its crates and what they use."""
+    """The headings of crates.txt in order, each with its crates and those that they use. What no line of it names is a library of the compiler's."""
     found, empty = [], False
     for line in (here / "../../crates.txt").read_text().splitlines():
         if line.startswith("# ") and empty:
@@ -39,10 +38,12 @@ def chapters():
         elif line.strip() and not line.startswith("#"):
             if not found:
                 found.append(("", {}))
-            name, others = line.split(":")
-            found[-1][1][name] = [other for other in others.split() if other not in kits]
+            # of a library for C: NAME staticlib: what it uses
+            name, _, others = line.partition(":")
+            found[-1][1][name.split()[0]] = others.split()
         empty = not line.strip()
-    return found
+    ours = {name for _, part in found for name in part}
+    return [(heading, {name: [other for other in others if other in ours] for name, others in part.items()}) for heading, part in found]
 
 
 def words():

@@ -318,7 +318,7 @@ def homeless():
 def main():
     if sys.argv[1:] == ["--check"] and homeless():
         sys.exit(f"docs/pictures/data.py has no street for {homeless()}")
-    crates = {line.split(":")[0] for line in (here / "../../crates.txt").read_text().splitlines() if line.strip() and not line.startswith("#")}
+    crates = {line.split(":")[0].split()[0] for line in (here / "../../crates.txt").read_text().splitlines() if line.strip() and not line.startswith("#")}
     for name, (picture, drawn) in (("data.svg", streets()), ("read.svg", read())):
         if sys.argv[1:] == ["--check"]:
             if picture.crates - crates:
