@@ -5,7 +5,6 @@
 use de::Walked;
 use head::Step;
 use std::io;
-use std::io::Read;
 
 // What a walk found. The state is 1 at the data's end, 2 at a cut, and the number of a refusal, which has an offset and nothing else.
 #[derive(Clone, Copy)]
@@ -175,9 +174,9 @@ fn show_unfilled(rt: &impl Print, file: &mut [u8]) -> io::Result<()> {
 }
 
 fn main(rt: HostRuntime) -> io::Result<()> {
-    let mut input = Vec::new(rt.alloc());
-    rt.stdin().take(4096).read_to_end(&mut input)?;
-    let file = input.as_mut_slice();
+    let mut buffer = [0u8; 4096];
+    let n = walk_line::read_input(&mut rt.stdin(), &mut buffer)?;
+    let file = &mut buffer[..n];
     show(&rt, file)?;
     // No replay; a code twice; a code that the table lacks, at the second event; a declared length that is one too small.
     show_changed(&rt, file, 0, 0x7c)?;
