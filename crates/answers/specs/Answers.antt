@@ -1,6 +1,6 @@
 -- The answers of the calls as structs of numbers.
 -- Assumes nothing.
-use Rattle.std.specs.Prelude.{ℕ, cond}
+use Rattle.std.specs.Prelude.{ℕ, cond, Result}
 use Rattle.format.specs.Mark.{yes}
 use Rattle.rollback.specs.declared.frame.Rollbacks.{Rollbacks}
 use Rattle.rollback.specs.declared.frame.Rollbacks.TheVariants.{ExceptFirst, ExceptLast}
@@ -8,7 +8,7 @@ use Rattle.head.specs.Numbers.{StepNumbers, step_numbers}
 use Rattle.de.specs.Numbers.{WalkNumbers, walk_numbers}
 use Rattle.head.specs.declared.Step.{Step}
 use Rattle.de.specs.declared.Walked.{Walked}
-use Rattle.ser.specs.declared.written.Written.{Written}
+use Rattle.format.specs.declared.refusal.Refusal.{Refusal}
 use Rattle.ser.specs.Write.{WrittenNumbers, written_numbers}
 use Rattle.append.specs.declared.appended.Appended.{Appended}
 use Rattle.append.specs.Run.{AppendedNumbers, appended_numbers}
@@ -35,7 +35,7 @@ walked w = walk_struct (walk_numbers w)
 abbrev pub written_struct : WrittenNumbers → SlpWritten
 written_struct n = record { refused = n.number; len = n.len }
 
-abbrev pub written : Written → SlpWritten
+abbrev pub written : Result ℕ Refusal → SlpWritten
 written w = written_struct (written_numbers w)
 
 abbrev pub appended_struct : AppendedNumbers → SlpAppended

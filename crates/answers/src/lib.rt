@@ -6,9 +6,9 @@ ghost use Rattle.answers.specs.Answers.{stepped, walked, written, appended_as, c
 
 use append::appended::Appended;
 use de::Walked;
+use format::refusal::Refusal;
 use head::Step;
 use live::closed::Closed;
-use ser::written::Written;
 
 pub mod mask;
 
@@ -134,12 +134,15 @@ pub fn walk_numbers(w: Walked) -> SlpWalked
     }
 }
 
-pub fn written_numbers(w: Written) -> SlpWritten
+pub fn written_numbers(w: Result<usize, Refusal>) -> SlpWritten
     ensures { result ≡ written w }
 {
     match w {
-        Written::File(len) => SlpWritten { refused: 0, len },
-        Written::Refused(refused) => SlpWritten { refused, len: 0 },
+        Ok(len) => SlpWritten { refused: 0, len },
+        Err(why) => SlpWritten {
+            refused: why.number(),
+            len: 0,
+        },
     }
 }
 

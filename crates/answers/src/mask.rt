@@ -3,7 +3,8 @@ ghost use Rattle.std.specs.Prelude.{◌≡◌};
 ghost use Rattle.rollback.specs.Mask.{mask_numbers};
 ghost use Rattle.answers.specs.Answers.{keep_of};
 
-use rollback::frame::{Masked, Rollbacks};
+use format::refusal::Refusal;
+use rollback::frame::Rollbacks;
 
 // 0 keeps an id's first frame, every other number its last.
 pub fn rollbacks_of(keep: u8) -> Rollbacks
@@ -17,11 +18,11 @@ pub fn rollbacks_of(keep: u8) -> Rollbacks
 }
 
 // 0 where the mask is written, else the refusal's number.
-pub fn mask_number(m: Masked) -> u8
+pub fn mask_number(m: Result<usize, Refusal>) -> u8
     ensures { result ≡ (mask_numbers m).number }
 {
     match m {
-        Masked::Written(_) => 0,
-        Masked::Refused(n) => n,
+        Ok(_) => 0,
+        Err(r) => r.number(),
     }
 }

@@ -1,7 +1,7 @@
 // How many bytes a run of frames has, by counts: what is judged before anything is written.
 ghost use Rattle.std.specs.Prelude.{◌≡◌, true, false, ◌-◌, ◌*◌, ◌≤◌};
 ghost use Rattle.game.specs.Frames.{slots_of};
-ghost use Rattle.game.specs.Stores.{offsets};
+ghost use Rattle.game.specs.Held.{offsets_in};
 ghost use Rattle.players.specs.Inner.{Covers, Modest, Ranges, Slotted};
 ghost use Rattle.players.specs.Presence.{marked, count_from, presence_wrong};
 ghost use Rattle.frames.specs.Inner.{Placed};
@@ -12,6 +12,7 @@ ghost use Rattle.events.specs.Length.{players_over, rows_between, run_length};
 
 use events::shapes::{Shape, Shapes};
 use game::frames::Frames;
+use game::stores::Offsets;
 use players::presence::present_in;
 use players::slots::Slots;
 
@@ -54,12 +55,8 @@ fn players_between(f: Frames, s: Slots, presence: &[u8], a: usize, b: usize) -> 
     ensures { (result ≡ players_over presence.now (slots_of f) a (b - a)) × (result ≤ 8388608) }
 {
     let mut n: usize = 0;
-    let mut k = 0;
-    while k < s.count {
-        let at = s.at[k];
-        let len = s.len[k];
-        n += present_between(presence, at, len, a, b);
-        k += 1;
+    for k in 0..s.count {
+        n += present_between(presence, s.at[k], s.len[k], a, b);
     }
     n
 }
@@ -69,31 +66,28 @@ pub fn run_len(
     f: Frames,
     shapes: Shapes,
     s: Slots,
-    item_offsets: &[u32],
-    fod_offsets: &[u32],
-    whispy_offsets: &[u32],
-    stadium_offsets: &[u32],
+    offsets: &Offsets<'_>,
     presence: &[u8],
     a: usize,
     b: usize,
 ) -> usize
     requires { (Modest f × Slotted f s × (presence_wrong f presence.now ≡ false) × ShapesOf f shapes)
-        × (Placed f Item item_offsets.now × Placed f FodPlatform fod_offsets.now
-        × Placed f DreamlandWhispy whispy_offsets.now × Placed f StadiumTransformation stadium_offsets.now)
+        × (Placed f Item offsets.now.items.now × Placed f FodPlatform offsets.now.fods.now
+        × Placed f DreamlandWhispy offsets.now.whispys.now × Placed f StadiumTransformation offsets.now.stadiums.now)
         × (a ≤ b)
         × (b ≤ f.counts.frames) }
     ensures { result ≡ run_length f
-        (offsets item_offsets.now fod_offsets.now whispy_offsets.now stadium_offsets.now)
+        (offsets_in offsets.now)
         presence.now a b }
 {
     let n = f.counts.frames;
     let players = players_between(f, s, presence, a, b);
     let starts = records_len(shapes.start, b - a);
     let pres = players * (7 + shapes.pre.bytes);
-    let fods = rows_len(shapes.fod, fod_offsets, n, a, b);
-    let whispys = rows_len(shapes.whispy, whispy_offsets, n, a, b);
-    let stadiums = rows_len(shapes.stadium, stadium_offsets, n, a, b);
-    let items = rows_len(shapes.item, item_offsets, n, a, b);
+    let fods = rows_len(shapes.fod, offsets.fods, n, a, b);
+    let whispys = rows_len(shapes.whispy, offsets.whispys, n, a, b);
+    let stadiums = rows_len(shapes.stadium, offsets.stadiums, n, a, b);
+    let items = rows_len(shapes.item, offsets.items, n, a, b);
     let posts = players * (7 + shapes.post.bytes);
     let ends = records_len(shapes.end, b - a);
     starts + (pres + (fods + (whispys + (stadiums + (items + (posts + ends))))))

@@ -1,7 +1,7 @@
 // A run at its place, once the game and the range are judged.
 ghost use Rattle.std.specs.Prelude.{◌≡◌, false, ◌+◌, ltb};
 ghost use Rattle.format.specs.Refusal.{lowest};
-ghost use Rattle.game.specs.Stores.{cells, offsets, lent};
+ghost use Rattle.game.specs.Held.{lent_in};
 ghost use Rattle.frames.specs.Judge.{refusals};
 ghost use Rattle.append.specs.Run.{outside_frames, RunOutcome};
 
@@ -10,6 +10,7 @@ use super::length::run_len;
 use events::shapes::shapes_of;
 use format::refusal::SHORT_OUTPUT;
 use game::frames::Frames;
+use game::stores::Lent;
 use players::slots::slots_of;
 
 // Whether len bytes from a place on go beyond an output of `room` bytes; the place may be beyond it itself.
@@ -27,73 +28,20 @@ pub fn put_run(
     out: &mut [u8],
     place: usize,
     f: Frames,
-    ids: &[u32],
-    starts: &[u32],
-    pres: &[u32],
-    posts: &[u32],
-    ends: &[u32],
-    items: &[u32],
-    fods: &[u32],
-    whispys: &[u32],
-    stadiums: &[u32],
-    item_offsets: &[u32],
-    fod_offsets: &[u32],
-    whispy_offsets: &[u32],
-    stadium_offsets: &[u32],
-    presence: &[u8],
+    lent: &Lent<'_>,
     a: usize,
     b: usize,
 ) -> Appended
-    requires { (lowest (refusals f (lent
-        (cells ids.now starts.now pres.now posts.now ends.now
-        items.now fods.now whispys.now stadiums.now)
-        (offsets item_offsets.now fod_offsets.now whispy_offsets.now stadium_offsets.now)
-        presence.now) 0 0) ≡ 0)
+    requires { (lowest (refusals f (lent_in lent.now) 0 0) ≡ 0)
         × (outside_frames f a b ≡ false) }
-    ensures { RunOutcome f (lent
-        (cells ids.now starts.now pres.now posts.now ends.now
-        items.now fods.now whispys.now stadiums.now)
-        (offsets item_offsets.now fod_offsets.now whispy_offsets.now stadium_offsets.now)
-        presence.now) a b place out.old result out.new }
+    ensures { RunOutcome f (lent_in lent.now) a b place out.old result out.new }
 {
     let s = slots_of(f);
     let shapes = shapes_of(f);
-    let len = run_len(
-        f,
-        shapes,
-        s,
-        item_offsets,
-        fod_offsets,
-        whispy_offsets,
-        stadium_offsets,
-        presence,
-        a,
-        b,
-    );
+    let len = run_len(f, shapes, s, &lent.offsets, lent.presence, a, b);
     if is_short(out.len(), place, len) {
         return Appended::Refused(SHORT_OUTPUT);
     }
-    let end = events::frame::put_run(
-        out,
-        place,
-        shapes,
-        s,
-        a,
-        b,
-        ids,
-        starts,
-        pres,
-        posts,
-        ends,
-        items,
-        fods,
-        whispys,
-        stadiums,
-        item_offsets,
-        fod_offsets,
-        whispy_offsets,
-        stadium_offsets,
-        presence,
-    );
+    let end = events::frame::put_run(out, place, shapes, s, a, b, lent);
     Appended::End(end)
 }

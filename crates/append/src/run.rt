@@ -1,13 +1,14 @@
 // The public calls: the events of frames go to a place of the output, or a refusal touches nothing.
 ghost use Rattle.std.specs.Prelude.{◌≡◌, ◌+◌};
-ghost use Rattle.game.specs.Stores.{cells, offsets, lent};
+ghost use Rattle.game.specs.Held.{lent_in};
 ghost use Rattle.append.specs.Run.{outside_frames, RunOutcome};
 
 use super::appended::Appended;
 use super::place::put_run;
-use format::refusal::OUT_OF_RANGE;
+use format::refusal::{OUT_OF_RANGE, number_in};
 use frames::judge::judge;
 use game::frames::Frames;
+use game::stores::Lent;
 
 // Whether a range is reversed, or ends beyond the frames.
 fn is_outside(f: Frames, a: usize, b: usize) -> bool
@@ -21,148 +22,32 @@ pub fn write_frames(
     out: &mut [u8],
     place: usize,
     f: Frames,
-    ids: &[u32],
-    starts: &[u32],
-    pres: &[u32],
-    posts: &[u32],
-    ends: &[u32],
-    items: &[u32],
-    fods: &[u32],
-    whispys: &[u32],
-    stadiums: &[u32],
-    item_offsets: &[u32],
-    fod_offsets: &[u32],
-    whispy_offsets: &[u32],
-    stadium_offsets: &[u32],
-    presence: &[u8],
+    lent: &Lent<'_>,
     a: usize,
     b: usize,
 ) -> Appended
-    ensures { RunOutcome f (lent
-        (cells ids.now starts.now pres.now posts.now ends.now
-        items.now fods.now whispys.now stadiums.now)
-        (offsets item_offsets.now fod_offsets.now whispy_offsets.now stadium_offsets.now)
-        presence.now) a b place out.old result out.new }
+    ensures { RunOutcome f (lent_in lent.now) a b place out.old result out.new }
 {
-    let n = judge(
-        f,
-        ids,
-        starts,
-        pres,
-        posts,
-        ends,
-        items,
-        fods,
-        whispys,
-        stadiums,
-        item_offsets,
-        fod_offsets,
-        whispy_offsets,
-        stadium_offsets,
-        presence,
-        0,
-        0,
-    );
+    let n = number_in(judge(f, lent, 0, 0));
     if n != 0 {
         return Appended::Refused(n);
     }
     if is_outside(f, a, b) {
         return Appended::Refused(OUT_OF_RANGE);
     }
-    put_run(
-        out,
-        place,
-        f,
-        ids,
-        starts,
-        pres,
-        posts,
-        ends,
-        items,
-        fods,
-        whispys,
-        stadiums,
-        item_offsets,
-        fod_offsets,
-        whispy_offsets,
-        stadium_offsets,
-        presence,
-        a,
-        b,
-    )
+    put_run(out, place, f, lent, a, b)
 }
 
 // Frame i alone.
-pub fn write_frame(
-    out: &mut [u8],
-    place: usize,
-    f: Frames,
-    ids: &[u32],
-    starts: &[u32],
-    pres: &[u32],
-    posts: &[u32],
-    ends: &[u32],
-    items: &[u32],
-    fods: &[u32],
-    whispys: &[u32],
-    stadiums: &[u32],
-    item_offsets: &[u32],
-    fod_offsets: &[u32],
-    whispy_offsets: &[u32],
-    stadium_offsets: &[u32],
-    presence: &[u8],
-    i: usize,
-) -> Appended
-    ensures { RunOutcome f (lent
-        (cells ids.now starts.now pres.now posts.now ends.now
-        items.now fods.now whispys.now stadiums.now)
-        (offsets item_offsets.now fod_offsets.now whispy_offsets.now stadium_offsets.now)
-        presence.now) i (i + 1) place out.old result out.new }
+pub fn write_frame(out: &mut [u8], place: usize, f: Frames, lent: &Lent<'_>, i: usize) -> Appended
+    ensures { RunOutcome f (lent_in lent.now) i (i + 1) place out.old result out.new }
 {
-    let n = judge(
-        f,
-        ids,
-        starts,
-        pres,
-        posts,
-        ends,
-        items,
-        fods,
-        whispys,
-        stadiums,
-        item_offsets,
-        fod_offsets,
-        whispy_offsets,
-        stadium_offsets,
-        presence,
-        0,
-        0,
-    );
+    let n = number_in(judge(f, lent, 0, 0));
     if n != 0 {
         return Appended::Refused(n);
     }
     if f.counts.frames <= i {
         return Appended::Refused(OUT_OF_RANGE);
     }
-    put_run(
-        out,
-        place,
-        f,
-        ids,
-        starts,
-        pres,
-        posts,
-        ends,
-        items,
-        fods,
-        whispys,
-        stadiums,
-        item_offsets,
-        fod_offsets,
-        whispy_offsets,
-        stadium_offsets,
-        presence,
-        i,
-        i + 1,
-    )
+    put_run(out, place, f, lent, i, i + 1)
 }

@@ -19,18 +19,17 @@ use Rattle.de.specs.Numbers.{walk_numbers}
 use Rattle.de.specs.declared.Walked.{Walked}
 use Rattle.de.specs.declared.Walked.TheVariants as walked
 use Rattle.game.specs.declared.Game.{Game}
-use Rattle.ser.specs.declared.written.Written.{Written}
-use Rattle.ser.specs.declared.written.Written.TheVariants.{File, Refused}
+use Rattle.std.specs.Prelude.{Ok, Err}
+use Rattle.format.specs.Refused.{Answer, number_of}
+use Rattle.format.specs.declared.refusal.Refusal.{Refusal}
 use Rattle.game.specs.Stores.{Stores}
-use Rattle.ser.specs.Write.{judged, refusal, file, write_answer, left, WriterOutcome}
-use Rattle.rollback.specs.Mask.{occurs, mask_of, needed, all_in_range, answer_of, mask_numbers, mask_after, RollbackOutcome}
-use Rattle.rollback.specs.declared.frame.Masked.{Masked}
+use Rattle.ser.specs.Write.{judged, refusal, file, WrittenNumbers, write_numbers, written_numbers, left, WriterOutcome}
+use Rattle.rollback.specs.Mask.{occurs, mask_of, needed, all_in_range, answer_of, MaskNumbers, mask_numbers, mask_after, RollbackOutcome}
 use Rattle.rollback.specs.declared.frame.Rollbacks.{Rollbacks}
 use Rattle.rollback.specs.declared.frame.Rollbacks.TheVariants.{ExceptFirst, ExceptLast}
 use Rattle.format.specs.FrameId.{place_of}
 use Rattle.ser.proofs.Outcomes.{not_refused, numbered_eleven}
-use Rattle.ser.proofs.Only as files
-use Rattle.rollback.proofs.Only as masked
+use Rattle.std.specs.Prelude.{Result}
 use Rattle.case_table.specs.Table.{numbers, writes, listed, masks, four_ids}
 use Rattle.case_calls.specs.Rows.{WriteRow}
 use Rattle.case_calls.specs.declared.row.Row.{Row}
@@ -49,24 +48,16 @@ refused_row f w number offset e d = ap (λ (x : Walked). listed (walk_numbers x)
 
 -- ---- files
 
--- 0 and the length of a file; 1 and the number of a refusal
-kind : Written → ℕ
-kind (File n) = 0
-kind (Refused k) = 1
+is_file : (k m n : ℕ) → written_numbers (Ok n) ≡ write_numbers k m → (k ≡ 0) × (n ≡ m)
+is_file zero m n e = (refl, ap (λ (w : WrittenNumbers). w.len) e)
+is_file (suc k) m n e = let z : ◌≡◌ {A = ℕ} 0 1 = ap (λ (w : WrittenNumbers). w.kind) e in absurd (omega arith)
 
-value : Written → ℕ
-value (File n) = n
-value (Refused k) = k
+abbrev of_refusal : ℕ → WrittenNumbers
+of_refusal k = record { kind = 1; number = k; len = 0 }
 
-is_file : (k m n : ℕ) → File n ≡ write_answer k m → (k ≡ 0) × (n ≡ m)
-unfolding value kind
-is_file zero m n e = (refl, ap value e)
-is_file (suc k) m n e = let z = ap kind e in absurd (omega arith)
-
-is_refused : (k m n : ℕ) → Refused n ≡ write_answer k m → (n ≡ k) × (k ≡ 0 → ⊥)
-unfolding value kind
-is_refused zero m n e = let z = ap kind e in absurd (omega arith)
-is_refused (suc k) m n e = (ap value e, λ z. omega arith)
+is_refused : (k m n : ℕ) → of_refusal n ≡ write_numbers k m → (n ≡ k) × (k ≡ 0 → ⊥)
+is_refused zero m n e = let z : ◌≡◌ {A = ℕ} 1 0 = ap (λ (w : WrittenNumbers). w.kind) e in absurd (omega arith)
+is_refused (suc k) m n e = (ap (λ (w : WrittenNumbers). w.number) e, λ z. omega arith)
 
 -- a file that is not refused has room
 fits : (g : Game) (s : Stores) (room : ℕ) → refusal g s room ≡ 0 → length (file g s) ≤ room
@@ -98,28 +89,28 @@ numbers_refused zero raw total n e h = absurd (h refl)
 numbers_refused (suc k) raw total n e h = rw (e, eqb-suc-zero k)
 
 module _ {g : Game} {s : Stores} {out out' : List ℕ} where
-  known : (w : Written) (n : ℕ) → WriterOutcome g s out w out' → w ≡ File n → (refusal g s (length out) ≡ 0) × (n ≡ length (file g s))
-  known w n o e = is_file (refusal g s (length out)) (length (file g s)) n (sym e ∙ files.same_answer w _ o.answer_is)
+  known : (w : Answer ℕ) (n : ℕ) → WriterOutcome g s out w out' → w ≡ Ok n → (refusal g s (length out) ≡ 0) × (n ≡ length (file g s))
+  known w n o e = is_file (refusal g s (length out)) (length (file g s)) n (ap written_numbers (sym e) ∙ o.answer_is)
 
-  out_as : (w : Written) (n : ℕ) → WriterOutcome g s out w out' → w ≡ File n → out' ≡ splice out 0 (file g s)
+  out_as : (w : Answer ℕ) (n : ℕ) → WriterOutcome g s out w out' → w ≡ Ok n → out' ≡ splice out 0 (file g s)
   out_as w n o e = o.out_is ∙ ap (λ (k : ℕ). left k out (file g s)) (known w n o e).0
 
-  pub head_there : (w : Written) (n : ℕ) → WriterOutcome g s out w out' → w ≡ File n → length out' ≡ length out → 15 ≤ length out'
+  pub head_there : (w : Answer ℕ) (n : ℕ) → WriterOutcome g s out w out' → w ≡ Ok n → length out' ≡ length out → 15 ≤ length out'
   head_there w n o e l =
       let (z, m) = known w n o e in
       omega (arith, starts g s (length out) z, fits g s (length out) z)
 
-  pub file_row : (w : Written) (n field : ℕ) → WriterOutcome g s out w out' → w ≡ File n → field ≡ declared out'
+  pub file_row : (w : Answer ℕ) (n field : ℕ) → WriterOutcome g s out w out' → w ≡ Ok n → field ≡ declared out'
       → WriteRow g s out (record { len = 3; numbers = 0 ∷ field ∷ n ∷ 0 ∷ 0 ∷ 0 ∷ 0 ∷ 0 ∷ [] }) out'
   file_row w n field o e h =
       let (z, m) = known w n o e in
       let f = h ∙ ap declared (out_as w n o e) ∙ declared_splice out (file g s) (starts g s (length out) z) (fits g s (length out) z) in
       record { numbers_are = numbers_file _ _ _ field n z f m; out_is = o.out_is }
 
-  pub refusal_row : (w : Written) (k : ℕ) → WriterOutcome g s out w out' → w ≡ Refused k
+  pub refusal_row : (w : Answer ℕ) (r : Refusal) (k : ℕ) → WriterOutcome g s out w out' → w ≡ Err r → k ≡ number_of r
       → WriteRow g s out (record { len = 1; numbers = k ∷ 0 ∷ 0 ∷ 0 ∷ 0 ∷ 0 ∷ 0 ∷ 0 ∷ [] }) out'
-  refusal_row w k o e =
-      let (m, z) = is_refused (refusal g s (length out)) (length (file g s)) k (sym e ∙ files.same_answer w _ o.answer_is) in
+  refusal_row w r k o e h =
+      let (m, z) = is_refused (refusal g s (length out)) (length (file g s)) k (ap of_refusal h ∙ ap written_numbers (sym e) ∙ o.answer_is) in
       record { numbers_are = numbers_refused _ _ _ k m z; out_is = o.out_is }
 
 -- of an equal game
@@ -144,16 +135,16 @@ abbrev five : ℕ → List ℕ → List ℕ
 five k m = k ∷ get_or m 0 0 ∷ get_or m 1 0 ∷ get_or m 2 0 ∷ get_or m 3 0 ∷ []
 
 -- a mask of four bytes, byte by byte
-four_bytes : (kept : Rollbacks) → five (mask_numbers (answer_of four_ids 4 3)).number (mask_after (answer_of four_ids 4 3) kept four_ids (replicate 4 0)) ≡ masks kept four_ids 4 3
+four_bytes : (kept : Rollbacks) → five (answer_of four_ids 4 3).number (mask_after (answer_of four_ids 4 3) kept four_ids (replicate 4 0)) ≡ masks kept four_ids 4 3
 unfolding answer_of lowest all_in_range needed place_of mask_of occurs tabulate
 four_bytes ExceptFirst = refl
 four_bytes ExceptLast = refl
 
-pub mask_row : (kept : Rollbacks) {m : Masked} {mask scratch : List ℕ} (k a b c d : ℕ) → RollbackOutcome four_ids kept (replicate 4 0) (replicate 3 0) m mask scratch
+pub mask_row : (kept : Rollbacks) {m : Result ℕ Refusal} {mask scratch : List ℕ} (k a b c d : ℕ) → RollbackOutcome four_ids kept (replicate 4 0) (replicate 3 0) m mask scratch
     → k ≡ (mask_numbers m).number → a ≡ get_or mask 0 0 → b ≡ get_or mask 1 0 → c ≡ get_or mask 2 0 → d ≡ get_or mask 3 0 → k ∷ a ∷ b ∷ c ∷ d ∷ [] ≡ masks kept four_ids 4 3
 mask_row kept {m} {mask} k a b c d o ek ea eb ec ed =
     let bytes : k ∷ a ∷ b ∷ c ∷ d ∷ [] ≡ five (mask_numbers m).number mask = rw (ek, ea, eb, ec, ed) in
     bytes
     ∙ ap (λ (l : List ℕ). five (mask_numbers m).number l) o.mask_is
-    ∙ ap (λ (x : Masked). five (mask_numbers x).number (mask_after x kept four_ids (replicate 4 0))) (masked.answer_of_lem o)
+    ∙ ap (λ (x : MaskNumbers). five x.number (mask_after x kept four_ids (replicate 4 0))) o.answer_is
     ∙ four_bytes kept

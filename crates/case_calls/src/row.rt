@@ -1,6 +1,6 @@
 // What the public calls answer, as the numbers of the table.
 ghost use Rattle.std.specs.Prelude.{◌≡◌, cond};
-ghost use Rattle.game.specs.Stores.{cells, offsets, lent, stores};
+ghost use Rattle.game.specs.Held.{stores_in};
 ghost use Rattle.rollback.specs.Mask.{mask_numbers};
 ghost use Rattle.de.specs.Walk.{walk_of};
 ghost use Rattle.de.specs.Numbers.{walk_numbers};
@@ -8,9 +8,9 @@ ghost use Rattle.case_table.specs.Table.{listed};
 ghost use Rattle.case_calls.specs.Rows.{shown, WriteRow};
 
 use de::Walked;
+use format::refusal::Refusal;
 use game::Game;
-use rollback::frame::Masked;
-use ser::written::Written;
+use game::stores::Stores;
 
 // The first `len` of the numbers.
 #[derive(Clone, Copy)]
@@ -20,63 +20,18 @@ pub struct Row {
 }
 
 // The refusal's number; of a file that is written, 0, its length field and its length.
-pub fn write_row(
-    out: &mut [u8],
-    g: Game,
-    ids: &[u32],
-    starts: &[u32],
-    pres: &[u32],
-    posts: &[u32],
-    ends: &[u32],
-    items: &[u32],
-    fods: &[u32],
-    whispys: &[u32],
-    stadiums: &[u32],
-    item_offsets: &[u32],
-    fod_offsets: &[u32],
-    whispy_offsets: &[u32],
-    stadium_offsets: &[u32],
-    presence: &[u8],
-    template: &[u8],
-    codes: &[u8],
-    metadata: &[u8],
-) -> Row
-    ensures { WriteRow g (stores (lent
-        (cells ids.now starts.now pres.now posts.now ends.now
-        items.now fods.now whispys.now stadiums.now)
-        (offsets item_offsets.now fod_offsets.now whispy_offsets.now stadium_offsets.now)
-        presence.now)
-        template.now codes.now metadata.now) out.old result out.new }
+pub fn write_row(out: &mut [u8], g: Game, stores: &Stores<'_>) -> Row
+    ensures { WriteRow g (stores_in stores.now) out.old result out.new }
 {
-    let w = ser::write::write(
-        out,
-        g,
-        ids,
-        starts,
-        pres,
-        posts,
-        ends,
-        items,
-        fods,
-        whispys,
-        stadiums,
-        item_offsets,
-        fod_offsets,
-        whispy_offsets,
-        stadium_offsets,
-        presence,
-        template,
-        codes,
-        metadata,
-    );
+    let w = ser::write::write(out, g, stores);
     match w {
-        Written::File(n) => Row {
+        Ok(n) => Row {
             len: 3,
             numbers: [0, wire::get_be(out, 11, 4) as usize, n, 0, 0, 0, 0, 0],
         },
-        Written::Refused(k) => Row {
+        Err(why) => Row {
             len: 1,
-            numbers: [k as usize, 0, 0, 0, 0, 0, 0, 0],
+            numbers: [why.number() as usize, 0, 0, 0, 0, 0, 0, 0],
         },
     }
 }
@@ -110,11 +65,11 @@ pub fn walk_row(file: &[u8]) -> Row
 }
 
 // 0 where a mask is written.
-pub fn mask_number(m: Masked) -> usize
+pub fn mask_number(m: Result<usize, Refusal>) -> usize
     ensures { result ≡ (mask_numbers m).number }
 {
     match m {
-        Masked::Written(_) => 0,
-        Masked::Refused(number) => number as usize,
+        Ok(_) => 0,
+        Err(r) => r.number() as usize,
     }
 }

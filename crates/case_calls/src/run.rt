@@ -2,6 +2,8 @@
 ghost use Rattle.std.specs.Prelude.{◌≡◌, ◌+◌, ◌≤◌, [], length, replicate};
 ghost use Rattle.wire.specs.Wire.{number, part};
 ghost use Rattle.format.specs.Version.{version};
+ghost use Rattle.game.specs.Stores.{cells, offsets, lent, stores};
+ghost use Rattle.game.specs.Held.{stores_in};
 ghost use Rattle.case_table.specs.Games.{game_of, block_alone, one_frame};
 ghost use Rattle.case_table.specs.Table.{least, coded, answer, writing, walking, masks, four_ids, expected_at};
 ghost use Rattle.case_calls.specs.Rows.{shown, WriteRow};
@@ -11,6 +13,7 @@ use super::row::{Row, mask_number, walk_row, write_row};
 use case_table::sample::game;
 use format::event::Event;
 use format::version::Version;
+use game::stores::{Cells, Lent, Offsets, Stores};
 use rollback::frame::Rollbacks;
 use wire::wide;
 
@@ -21,11 +24,48 @@ const FIRST_BLOCK: usize = 814;
 
 const SECOND_BLOCK: usize = 1331;
 
+// Nothing but a template.
+fn template_alone<'a>(none: &'a [u32], bytes: &'a [u8], template: &'a [u8]) -> Stores<'a>
+    ensures { stores_in result ≡ stores (lent
+        (cells none.now none.now none.now none.now none.now none.now none.now none.now none.now)
+        (offsets none.now none.now none.now none.now)
+        bytes.now) template.now bytes.now bytes.now }
+{
+    let cells = Cells {
+        ids: none,
+        starts: none,
+        pres: none,
+        posts: none,
+        ends: none,
+        items: none,
+        fods: none,
+        whispys: none,
+        stadiums: none,
+    };
+    let offsets = Offsets {
+        items: none,
+        fods: none,
+        whispys: none,
+        stadiums: none,
+    };
+    let lent = Lent {
+        cells,
+        offsets,
+        presence: bytes,
+    };
+    Stores {
+        lent,
+        template,
+        codes: bytes,
+        metadata: bytes,
+    }
+}
+
 // 0.1.0 and nothing else.
 fn write_least(out: &mut [u8], template: &[u8]) -> Row
     ensures { WriteRow least (block_alone template.now) out.old result out.new }
 {
-    let cells = [0u32; 0];
+    let none = [0u32; 0];
     let bytes = [0u8; 0];
     let v = Version {
         major: 0,
@@ -33,10 +73,54 @@ fn write_least(out: &mut [u8], template: &[u8]) -> Row
         patch: 0,
     };
     let g = game(v, 0, 0, 0, 0, 0);
-    write_row(
-        out, g, &cells, &cells, &cells, &cells, &cells, &cells, &cells, &cells, &cells, &cells,
-        &cells, &cells, &cells, &bytes, template, &bytes, &bytes,
-    )
+    let stores = template_alone(&none, &bytes, template);
+    write_row(out, g, &stores)
+}
+
+// A frame whose start and end have a row, `two` cells and `one`, as its offsets have; a leader's Pre and Post; and codes.
+fn frame_alone<'a>(
+    one: &'a [u32],
+    two: &'a [u32],
+    none: &'a [u32],
+    pres: &'a [u32],
+    posts: &'a [u32],
+    bytes: &'a [u8],
+    template: &'a [u8],
+    codes: &'a [u8],
+) -> Stores<'a>
+    ensures { stores_in result ≡ stores (lent
+        (cells one.now two.now pres.now posts.now one.now none.now none.now none.now none.now)
+        (offsets two.now two.now two.now two.now)
+        bytes.now) template.now codes.now bytes.now }
+{
+    let cells = Cells {
+        ids: one,
+        starts: two,
+        pres,
+        posts,
+        ends: one,
+        items: none,
+        fods: none,
+        whispys: none,
+        stadiums: none,
+    };
+    let offsets = Offsets {
+        items: two,
+        fods: two,
+        whispys: two,
+        stadiums: two,
+    };
+    let lent = Lent {
+        cells,
+        offsets,
+        presence: bytes,
+    };
+    Stores {
+        lent,
+        template,
+        codes,
+        metadata: bytes,
+    }
 }
 
 // One frame of one leader at 3.18, and an end, with codes or none.
@@ -51,10 +135,8 @@ fn write_frame(out: &mut [u8], v: Version, given: u8, actual: u32, codes: &[u8])
     let template = [0u8; 760];
     let bytes = [0u8; 0];
     let g = game(v, 1, 1, 1, given, actual);
-    write_row(
-        out, g, &one, &two, &pres, &posts, &one, &none, &none, &none, &none, &two, &two, &two,
-        &two, &bytes, &template, codes, &bytes,
-    )
+    let stores = frame_alone(&one, &two, &none, &pres, &posts, &bytes, &template, codes);
+    write_row(out, g, &stores)
 }
 
 pub fn case_1() -> Row

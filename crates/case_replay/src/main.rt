@@ -6,8 +6,9 @@ use de::Walked;
 use head::Step;
 use std::io;
 
-// What a walk found. The state is 1 at the data's end, 2 at a cut, and the number of a refusal, which has an offset and nothing else.
-#[derive(Clone, Copy)]
+// What a walk found. The state is 1 at the data's end, 2 at a cut, and the number of a refusal, which has an offset and nothing else: a number, since
+// it is printed as one.
+#[derive(Clone, Copy, PartialEq)]
 struct Found {
     state: u8,
     offset: usize,
@@ -19,34 +20,15 @@ struct Found {
 fn last_place(file: &[u8]) -> Found {
     let mut from = replay::first_place(file);
     let mut place = from;
-    let mut events: usize = 0;
-    while events < file.len() {
+    for events in 0..file.len() {
         let step = replay::event_moved(file, from, place);
-        let Step::Event {
-            code: _,
-            at: _,
-            payload: _,
-            len: _,
-            next,
-        } = step
-        else {
-            return Found {
-                state: 0,
-                offset: 0,
-                events,
-                place,
-            };
+        let Step::Event { next, .. } = step else {
+            return stopped(0, events, place);
         };
         from = place;
         place = next;
-        events += 1;
     }
-    Found {
-        state: 0,
-        offset: 0,
-        events,
-        place,
-    }
+    stopped(0, file.len(), place)
 }
 
 fn refused(number: u8, offset: usize) -> Found {
@@ -71,13 +53,7 @@ fn by_value(file: &[u8]) -> Found {
     let found = last_place(file);
     let step = replay::event_from(file, found.place);
     match step {
-        Step::Event {
-            code: _,
-            at: _,
-            payload: _,
-            len: _,
-            next: _,
-        } => stopped(0, found.events, found.place),
+        Step::Event { .. } => stopped(0, found.events, found.place),
         Step::Ends => stopped(1, found.events, found.place),
         Step::Cut => stopped(2, found.events, found.place),
         Step::Refused { number, offset } => refused(number, offset),
@@ -89,9 +65,9 @@ fn by_walk(file: &[u8]) -> Found {
     match w {
         Walked::Done {
             events,
-            stray: _,
             whole,
             place,
+            ..
         } => {
             if whole {
                 stopped(1, events, place)
@@ -103,32 +79,12 @@ fn by_walk(file: &[u8]) -> Found {
     }
 }
 
-fn same(a: Found, b: Found) -> bool {
-    if a.state != b.state {
-        return false;
-    }
-    if a.offset != b.offset {
-        return false;
-    }
-    if a.events != b.events {
-        return false;
-    }
-    a.place == b.place
-}
-
-fn agree(file: &[u8]) -> bool {
-    let v = by_value(file);
-    let w = by_walk(file);
-    same(v, w)
-}
-
 // After how many of its bytes the two agree.
 fn agreed(file: &[u8]) -> usize {
     let mut n: usize = 0;
-    let mut cut: usize = 0;
-    while cut < file.len() {
-        cut += 1;
-        if agree(&file[..cut]) {
+    for cut in 1..=file.len() {
+        let part = &file[..cut];
+        if by_value(part) == by_walk(part) {
             n += 1;
         }
     }

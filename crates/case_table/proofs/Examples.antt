@@ -17,7 +17,7 @@ use Rattle.events.specs.Events.{frame_events, one_event, row_events, player_even
 use Rattle.de.specs.Walk.{walk_of}
 use Rattle.de.specs.Cut.{events_read}
 use Rattle.de.specs.declared.Walked.TheVariants.{Done}
-use Rattle.rollback.specs.Mask.{answer_of, mask_numbers, mask_after}
+use Rattle.rollback.specs.Mask.{answer_of, mask_after}
 use Rattle.rollback.specs.declared.frame.Rollbacks.TheVariants.{ExceptFirst}
 use Rattle.game.specs.declared.Game.{Game}
 use Rattle.ser.specs.Write.{refusal, events, file}
@@ -70,6 +70,6 @@ cut_events = (refl, refl)
 
 -- ---- a mask that is written
 
-pub mask_written : (mask_numbers (answer_of four_ids 4 3)).number ∷ mask_after (answer_of four_ids 4 3) ExceptFirst four_ids (replicate 4 0) ≡ 0 ∷ 0 ∷ 0 ∷ 1 ∷ 0 ∷ []
+pub mask_written : (answer_of four_ids 4 3).number ∷ mask_after (answer_of four_ids 4 3) ExceptFirst four_ids (replicate 4 0) ≡ 0 ∷ 0 ∷ 0 ∷ 1 ∷ 0 ∷ []
 unfolding cases
 mask_written = case_holds 12 (lit< tt)

@@ -7,7 +7,7 @@ use Rattle.format.specs.File.{Entry, Ev}
 use Rattle.format.specs.Version.{version}
 use Rattle.format.specs.declared.event.Event.TheVariants.{GeckoCodes, MessageSplitter}
 use Rattle.layout.specs.Columns.{chosen}
-use Rattle.rollback.specs.Mask.{answer_of, mask_numbers, mask_after}
+use Rattle.rollback.specs.Mask.{answer_of, mask_after}
 use Rattle.rollback.specs.declared.frame.Rollbacks.{Rollbacks}
 use Rattle.rollback.specs.declared.frame.Rollbacks.TheVariants.{ExceptFirst, ExceptLast}
 use Rattle.head.specs.Table.{declared}
@@ -58,7 +58,7 @@ listed w = w.number ∷ w.offset ∷ w.events ∷ w.stray ∷ w.whole ∷ w.plac
 
 -- the refusal's number, 0 for none; then the mask as it is afterwards
 abbrev pub masks : Rollbacks → List ℕ → ℕ → ℕ → List ℕ
-masks kept ids m n = (mask_numbers (answer_of ids m n)).number ∷ mask_after (answer_of ids m n) kept ids (replicate m 0)
+masks kept ids m n = (answer_of ids m n).number ∷ mask_after (answer_of ids m n) kept ids (replicate m 0)
 
 abbrev pub answer : Question → List ℕ
 answer (writing g s room) = writes g s room

@@ -6,11 +6,10 @@ ghost use Rattle.check_file.specs.Inner.{is_body, is_tail};
 fn is_body(body: &[u8]) -> bool
     ensures { result ≡ is_body body.now }
 {
-    let g = map_reader::read::read_map(body, 0, 8);
-    if g.refusal != 0 {
-        return false;
+    match map_reader::read::read_map(body, 0, 8) {
+        Ok(read) => read.stop == body.len(),
+        Err(_) => false,
     }
-    g.stop == body.len()
 }
 
 // Whether what stands in a file from a place on is a tail. Its length is judged before its body is read.

@@ -1,6 +1,6 @@
 -- The laws of bytes that begin with others, and of a version's table.
 -- Assumes nothing.
-use Prim.Native.Nat.{ℕ, ◌-◌, ◌%◌, ◌≤◌, ◌<◌}
+use Prim.Native.Nat.{ℕ, ◌-◌, ◌%◌, ◌≤◌}
 use mathlib.Core.Path.{◌≡◌, refl, ap, ◌∙◌}
 use mathlib.Core.Bool.{Bool, true, false, cond, ◌&&◌}
 use mathlib.Core.List.{List, [], ◌∷◌, ◌++◌}
@@ -17,25 +17,12 @@ use Rattle.format.proofs.Files.{length_table}
 use Rattle.layout.specs.Columns.{chosen}
 use Rattle.layout.specs.Payloads.{entries_of, listed, payload_size}
 use Rattle.layout.proofs.Entries.{few_entries}
+use lib.Pointwise.{pointwise}
 use Rattle.head.specs.Table.{starts_with}
+use Rattle.head.proofs.Heads.{starts_same}
 use Rattle.check_table.specs.Table.{table_is}
 
 -- ---- bytes that begin with others
-
-and_none : (b : Bool) → (b && false) ≡ false
-and_none true = refl
-and_none false = refl
-
-pub starts_short : (xs ys : List ℕ) → length ys < length xs → starts_with xs ys ≡ false
-unfolding starts_with
-starts_short [] ys h = absurd (omega arith)
-starts_short (x ∷ xs) [] h = refl
-starts_short (x ∷ xs) (y ∷ ys) h = ap (λ (b : Bool). eqb y x && b) (starts_short xs ys (omega arith)) ∙ and_none (eqb y x)
-
-pub starts_done : (xs ys : List ℕ) → length xs ≤ 0 → starts_with xs ys ≡ true
-unfolding starts_with
-starts_done [] ys h = refl
-starts_done (x ∷ xs) ys h = absurd (omega arith)
 
 pub starts_is : (xs ys : List ℕ) → starts_with xs ys ≡ true → ys ≡ xs ++ drop (length xs) ys
 unfolding starts_with
@@ -66,13 +53,14 @@ written_front before after n bytes fits w =
     let e : n ≡ length bytes = omega (arith, w.next_is) in
     ap (λ (k : ℕ). take k after) e ∙ ap (take (length bytes)) w.after_is ∙ part_splice before 0 bytes (omega arith)
 
-pub table_as : (file table : List ℕ) (n end : ℕ) (v : Version) (block : ℕ) (given : Bool) (actual : ℕ) → take n table ≡ table_bytes (entries_of v block given (actual % 65536)) → end ≡ length file
-    → (r : Bool) → r ≡ starts_with (take n table) (take (end - 15) (drop 15 file)) → r ≡ table_is file v block given actual
+pub table_as : (file table : List ℕ) (n : ℕ) (v : Version) (block : ℕ) (given : Bool) (actual : ℕ) → take n table ≡ table_bytes (entries_of v block given (actual % 65536))
+    → (r : Bool) → r ≡ pointwise eqb (take n table) (take (length (take n table)) (take (length file - 15) (drop 15 file))) → r ≡ table_is file v block given actual
 unfolding table_is
-table_as file table n end v block given actual t e r q =
+table_as file table n v block given actual t r q =
     q
-    ∙ ap (λ (l : List ℕ). starts_with l (take (end - 15) (drop 15 file))) (t ∙ ap table_bytes (low_codes v block given actual))
-    ∙ ap (starts_with (table_bytes (entries_of v block given actual))) (take_all (end - 15) (drop 15 file) (omega (arith, length-drop 15 file)))
+    ∙ starts_same (take n table) (take (length file - 15) (drop 15 file))
+    ∙ ap (λ (l : List ℕ). starts_with l (take (length file - 15) (drop 15 file))) (t ∙ ap table_bytes (low_codes v block given actual))
+    ∙ ap (starts_with (table_bytes (entries_of v block given actual))) (take_all (length file - 15) (drop 15 file) (omega (arith, length-drop 15 file)))
 
 -- how much was written
 pub written_within : (before after : List ℕ) (n : ℕ) (bytes : List ℕ) → length bytes ≤ length before → Wrote before after 0 n bytes → n ≤ length after

@@ -2,28 +2,9 @@
 #![tactic(auto)]
 
 ghost use Rattle.std.specs.Prelude.{◌≡◌, ◌≤◌, ◌<◌, length};
-ghost use Rattle.head.specs.Table.{starts_with};
 ghost use Rattle.check_table.specs.Table.{table_is};
 
 use format::version::Version;
-
-// Whether bytes begin with others.
-fn begins(bytes: &[u8], first: &[u8]) -> bool
-    ensures { result ≡ starts_with first.now bytes.now }
-{
-    let n = first.len();
-    if bytes.len() < n {
-        return false;
-    }
-    let mut i: usize = 0;
-    while i < n {
-        if bytes[i] != first[i] {
-            return false;
-        }
-        i += 1;
-    }
-    true
-}
 
 // Whether the table of a file is a version's, to the byte, with a start block of `block` bytes and codes of `actual` bytes listed or not.
 pub fn is_table(file: &[u8], v: Version, block: usize, given: bool, actual: usize) -> bool
@@ -33,6 +14,5 @@ pub fn is_table(file: &[u8], v: Version, block: usize, given: bool, actual: usiz
     let mut table = [0u8; 38];
     let low = (actual % 65536) as u32;
     let n = layout::payloads::put_table(&mut table, 0, v, block, given, low);
-    let end = file.len();
-    begins(&file[15..end], &table[..n])
+    file[15..].starts_with(&table[..n])
 }

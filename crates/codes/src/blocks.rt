@@ -21,7 +21,7 @@ pub fn padded(actual: u32) -> usize
     512 * block_count(actual)
 }
 
-// Refusal 10. Bytes that are not marked as given are ignored.
+// Refusal 10. Bytes that are not marked as given are ignored: the mark and the bytes stand apart, as the C interface lends them.
 pub fn codes_wrong(v: Version, given: bool, codes: &[u8], actual: u32) -> bool
     ensures { result ≡ codes_wrong v given codes.now actual }
 {
@@ -40,10 +40,7 @@ fn used_bytes(actual: u32, b: usize) -> u32
     ensures { result ≡ used actual b }
 {
     let rest = actual as usize - 512 * b;
-    if 512 < rest {
-        return 512;
-    }
-    rest as u32
+    rest.min(512) as u32
 }
 
 // 1 for the last block, else 0.
@@ -51,10 +48,7 @@ fn last_flag(actual: u32, b: usize) -> u8
     requires { b < block_count actual }
     ensures { result ≡ last_flag actual b }
 {
-    if b + 1 == block_count(actual) {
-        return 1;
-    }
-    0
+    (b + 1 == block_count(actual)) as u8
 }
 
 // What follows a block's 512 bytes.
@@ -88,10 +82,8 @@ fn put_blocks(out: &mut [u8], at: usize, codes: &[u8], actual: u32) -> usize
 {
     let n = block_count(actual);
     let mut p = at;
-    let mut b: usize = 0;
-    while b < n {
+    for b in 0..n {
         p = put_block(out, p, codes, actual, b);
-        b += 1;
     }
     p
 }

@@ -47,10 +47,8 @@ fn put_four(out: &mut [u8], at: usize, e: End) -> usize
     ensures { Wrote out.old out.new at result (placements_of e) }
 {
     let mut p = at;
-    let mut i: usize = 0;
-    while i < 4 {
+    for i in 0..4 {
         p = wire::put_u8(out, p, placement(e, i));
-        i += 1;
     }
     p
 }

@@ -7,7 +7,7 @@ pub const METADATA_KEY: [u8; 11] = [
     0x55, 0x08, 0x6d, 0x65, 0x74, 0x61, 0x64, 0x61, 0x74, 0x61, 0x7b,
 ];
 
-// The metadata's map, whose body comes encoded.
+// The metadata's map, whose body comes encoded. Whether it is given stands apart from its bytes, as the C interface lends them.
 fn put_metadata(out: &mut [u8], at: usize, given: bool, metadata: &[u8]) -> usize
     requires { Room out.old at (keep given (metadata_of metadata.now)) }
     ensures { Wrote out.old out.new at result (keep given (metadata_of metadata.now)) }

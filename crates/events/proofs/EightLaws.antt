@@ -51,12 +51,12 @@ module _ (m : Shape) (s : Slots) (cells bits ids : List ℕ) (i : ℕ) where
   unfolding players_from ranged
   players_done k h t = rw (sub-eq-zero_of_le h)
 
-  module _ (k first : ℕ) (h : k < s.count) (e : first ≡ k * m.block + i) (g : Together s bits i) where
+  module _ (k : ℕ) (h : k < s.count) (g : Together s bits i) where
     abbrev mark : Bool
     mark = marked bits (get_or s.at k 0) (get_or s.len k 0) i
 
     pub player_here : mark ≡ true → (t : ℕ) → t < 8
-        → player_on m s cells bits ids i k t ≡ record_at (player_head m.code 0 (get_or s.ports k 0) (get_or s.followers k 0)) ids i (columns_in m) cells m.rows first t
+        → player_on m s cells bits ids i k t ≡ record_at (player_head m.code 0 (get_or s.ports k 0) (get_or s.followers k 0)) ids i (columns_in m) cells m.rows (k * m.block + i) t
     unfolding player_on
     player_here x t l =
         kept (marked bits (get_or s.at k 0) (get_or s.len k 0) (i + t)) _ ((g.each k h).mark t l ∙ x)

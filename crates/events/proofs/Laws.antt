@@ -5,7 +5,6 @@ use mathlib.Core.Bool.{Bool, true, false}
 use mathlib.Core.List.{List, [], ◌∷◌, ◌++◌, append_assoc}
 use Prim.Native.Nat.{ℕ, suc, ◌+◌, ◌-◌, ◌*◌, ◌≤◌, ◌<◌}
 use native.Mathlib.Nat.{sub-zero, sub-eq-zero_of_le, suc-mul, zero-mul, zero-add, mul-le-mul, mul-le-mul_right}
-use native.Mathlib.Numerals.{add-one}
 use native.Mathlib.Omega.{arith}
 use lib.ListN.{length, get_or}
 use lib.Seq.{length-take-le}
@@ -239,10 +238,6 @@ module _ (p : Shapes) (s : Slots) (lent : Lent) (i : ℕ) where
           unfolding frame_bytes
           end_room w4 = room_second (room_second (room_second (room_second r w1) w2) w3) w4
 
--- ---- the players' blocks, one after another
-pub next_first : (block k i first : ℕ) → first ≡ k * block + i → first + block ≡ (k + 1) * block + i
-next_first block k i first e = let n = suc-mul k block in rw (add-one k) (omega arith)
-
--- no slot's first cell is far, nor is the next one's
-pub first_small : (block k i first : ℕ) → k < 8 → block ≤ 134217728 → i ≤ 1048576 → first ≡ k * block + i → first + block ≤ 1074790400
-first_small block k i first h b j e = let n = suc-mul k block in let l : suc k * block ≤ 8 * 134217728 = mul-le-mul h b in omega arith
+-- no slot's first cell is far
+pub first_small : (block k i : ℕ) → k < 8 → block ≤ 134217728 → i ≤ 1048576 → k * block + i ≤ 1074790400
+first_small block k i h b j = let few : k ≤ 8 = omega arith in let l : k * block ≤ 8 * 134217728 = mul-le-mul few b in omega arith

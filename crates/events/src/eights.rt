@@ -4,7 +4,7 @@ ghost use Rattle.wire.specs.Wire.{ranged, Room, Wrote};
 ghost use Rattle.layout.specs.Columns.{sum};
 ghost use Rattle.record.specs.Inner.{InStore};
 ghost use Rattle.spread.specs.Inner.{Rooms, Sown, place_at, record_at};
-ghost use Rattle.game.specs.Stores.{cells, offsets, lent};
+ghost use Rattle.game.specs.Held.{lent_in};
 ghost use Rattle.places.specs.Inner.{Seated, Together};
 ghost use Rattle.events.specs.Inner.{frame_bytes, LaidOut, Supplied};
 ghost use Rattle.events.specs.Eights.{ones_on, players_on, middle_on, frame_on, Absent, Apiece};
@@ -12,6 +12,7 @@ ghost use Rattle.events.specs.Eights.{ones_on, players_on, middle_on, frame_on, 
 use super::middle::put_middles;
 use super::shapes::{Shape, Shapes};
 use super::spans::spans_of;
+use game::stores::Lent;
 use places::table::{is_calm, lay_out};
 use players::presence::is_present;
 use players::slots::Slots;
@@ -109,21 +110,16 @@ fn put_teams(
         (players_on m s cells.now presence.now ids.now i) }
 {
     let mut p = off;
-    let mut first = i;
-    let mut k: usize = 0;
-    while k < s.count {
-        let h = Head {
-            code: m.code,
-            id: 0,
-            player: true,
-            port: s.ports[k],
-            follower: s.followers[k],
-        };
-        let here = is_present(presence, s.at[k], s.len[k], i);
-        let row = first;
-        first += m.block;
-        k += 1;
-        if here {
+    for k in 0..s.count {
+        if is_present(presence, s.at[k], s.len[k], i) {
+            let h = Head {
+                code: m.code,
+                id: 0,
+                player: true,
+                port: s.ports[k],
+                follower: s.followers[k],
+            };
+            let row = k * m.block + i;
             p = put_eight_rows(
                 out, places, x, p, h, ids, i, &m.widths, m.count, m.bytes, cells, m.rows, row,
             );
@@ -140,60 +136,63 @@ fn put_parts(
     calm: bool,
     shapes: Shapes,
     s: Slots,
-    ids: &[u32],
-    starts: &[u32],
-    pres: &[u32],
-    posts: &[u32],
-    ends: &[u32],
-    items: &[u32],
-    fods: &[u32],
-    whispys: &[u32],
-    stadiums: &[u32],
-    item_offsets: &[u32],
-    fod_offsets: &[u32],
-    whispy_offsets: &[u32],
-    stadium_offsets: &[u32],
-    presence: &[u8],
+    lent: &Lent<'_>,
 ) -> usize
-    requires { let all = lent
-        (cells ids.now starts.now pres.now posts.now ends.now
-        items.now fods.now whispys.now stadiums.now)
-        (offsets item_offsets.now fod_offsets.now whispy_offsets.now stadium_offsets.now)
-        presence.now in
-        Supplied shapes s all (length ids.now)
-        × (i + 8 ≤ length ids.now)
-        × Together s presence.now i
+    requires { let all = lent_in lent.now in
+        Supplied shapes s all (length lent.now.cells.ids.now)
+        × (i + 8 ≤ length lent.now.cells.ids.now)
+        × Together s lent.now.presence.now i
         × Apiece shapes s all i places.now
         × Rooms out.old (place_at places.now 0 0) (frame_on shapes s all i)
-        × Absent calm (middle_on shapes items.now fods.now whispys.now stadiums.now all.offsets ids.now i) }
-    ensures { let all = lent
-        (cells ids.now starts.now pres.now posts.now ends.now
-        items.now fods.now whispys.now stadiums.now)
-        (offsets item_offsets.now fod_offsets.now whispy_offsets.now stadium_offsets.now)
-        presence.now in
+        × Absent calm (middle_on shapes lent.now.cells.items.now lent.now.cells.fods.now lent.now.cells.whispys.now lent.now.cells.stadiums.now all.offsets lent.now.cells.ids.now i) }
+    ensures { let all = lent_in lent.now in
         Sown out.old out.new (place_at places.now 0 0) (place_at places.now 8 result) (frame_on shapes s all i) }
 {
-    let mut p = put_ones(out, places, 0, 0, shapes.start, starts, ids, i);
-    p = put_teams(out, places, 0, p, shapes.pre, s, pres, presence, ids, i);
-    put_middles(
+    let mut p = put_ones(
         out,
         places,
-        p,
-        calm,
-        shapes,
-        items,
-        fods,
-        whispys,
-        stadiums,
-        item_offsets,
-        fod_offsets,
-        whispy_offsets,
-        stadium_offsets,
-        ids,
+        0,
+        0,
+        shapes.start,
+        lent.cells.starts,
+        lent.cells.ids,
         i,
     );
-    p = put_teams(out, places, 8, 0, shapes.post, s, posts, presence, ids, i);
-    put_ones(out, places, 8, p, shapes.end, ends, ids, i)
+    p = put_teams(
+        out,
+        places,
+        0,
+        p,
+        shapes.pre,
+        s,
+        lent.cells.pres,
+        lent.presence,
+        lent.cells.ids,
+        i,
+    );
+    put_middles(out, places, p, calm, shapes, lent, i);
+    p = put_teams(
+        out,
+        places,
+        8,
+        0,
+        shapes.post,
+        s,
+        lent.cells.posts,
+        lent.presence,
+        lent.cells.ids,
+        i,
+    );
+    put_ones(
+        out,
+        places,
+        8,
+        p,
+        shapes.end,
+        lent.cells.ends,
+        lent.cells.ids,
+        i,
+    )
 }
 
 // Frames i to i + 7, the first of which begins at `at`.
@@ -203,83 +202,21 @@ pub fn put_eight(
     i: usize,
     shapes: Shapes,
     s: Slots,
-    ids: &[u32],
-    starts: &[u32],
-    pres: &[u32],
-    posts: &[u32],
-    ends: &[u32],
-    items: &[u32],
-    fods: &[u32],
-    whispys: &[u32],
-    stadiums: &[u32],
-    item_offsets: &[u32],
-    fod_offsets: &[u32],
-    whispy_offsets: &[u32],
-    stadium_offsets: &[u32],
-    presence: &[u8],
+    lent: &Lent<'_>,
 ) -> usize
-    requires { let all = lent
-        (cells ids.now starts.now pres.now posts.now ends.now
-        items.now fods.now whispys.now stadiums.now)
-        (offsets item_offsets.now fod_offsets.now whispy_offsets.now stadium_offsets.now)
-        presence.now in
-        Supplied shapes s all (length ids.now)
-        × (i + 8 ≤ length ids.now)
-        × Together s presence.now i
+    requires { let all = lent_in lent.now in
+        Supplied shapes s all (length lent.now.cells.ids.now)
+        × (i + 8 ≤ length lent.now.cells.ids.now)
+        × Together s lent.now.presence.now i
         × Room out.old at (ranged (frame_bytes shapes s all) i 8) }
-    ensures { let all = lent
-        (cells ids.now starts.now pres.now posts.now ends.now
-        items.now fods.now whispys.now stadiums.now)
-        (offsets item_offsets.now fod_offsets.now whispy_offsets.now stadium_offsets.now)
-        presence.now in
+    ensures { let all = lent_in lent.now in
         Wrote out.old out.new at result (ranged (frame_bytes shapes s all) i 8) }
 {
-    let z = spans_of(shapes, s, presence, i);
-    let n = ids.len();
-    let calm = is_calm(
-        z,
-        item_offsets,
-        fod_offsets,
-        whispy_offsets,
-        stadium_offsets,
-        n,
-        i,
-        i + 8,
-    );
+    let z = spans_of(shapes, s, lent.presence, i);
+    let n = lent.cells.ids.len();
+    let calm = is_calm(z, &lent.offsets, n, i, i + 8);
     let mut places = [at; 16];
-    let end = lay_out(
-        &mut places,
-        at,
-        z,
-        calm,
-        item_offsets,
-        fod_offsets,
-        whispy_offsets,
-        stadium_offsets,
-        n,
-        i,
-    );
-    put_parts(
-        out,
-        &places,
-        i,
-        calm,
-        shapes,
-        s,
-        ids,
-        starts,
-        pres,
-        posts,
-        ends,
-        items,
-        fods,
-        whispys,
-        stadiums,
-        item_offsets,
-        fod_offsets,
-        whispy_offsets,
-        stadium_offsets,
-        presence,
-    );
+    let end = lay_out(&mut places, at, z, calm, &lent.offsets, n, i);
+    put_parts(out, &places, i, calm, shapes, s, lent);
     end
 }

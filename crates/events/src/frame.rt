@@ -3,7 +3,7 @@ ghost use Rattle.std.specs.Prelude.{◌≡◌, ◌-◌, ◌≤◌, ◌<◌, leng
 ghost use Rattle.wire.specs.Wire.{ranged, Room, Wrote};
 ghost use Rattle.format.specs.File.{events_bytes};
 ghost use Rattle.players.specs.Inner.{Slotted};
-ghost use Rattle.game.specs.Stores.{cells, offsets, lent};
+ghost use Rattle.game.specs.Held.{lent_in};
 ghost use Rattle.events.specs.Events.{frame_events};
 ghost use Rattle.events.specs.Inner.{Framed, frame_bytes, Supplied};
 
@@ -12,6 +12,7 @@ use super::middle::put_between;
 use super::rows::{put_one, put_players};
 use super::shapes::{Shapes, shapes_of};
 use game::frames::Frames;
+use game::stores::Lent;
 use places::team::{is_team, is_whole};
 use players::slots::Slots;
 
@@ -22,58 +23,31 @@ fn put_frame(
     i: usize,
     shapes: Shapes,
     s: Slots,
-    ids: &[u32],
-    starts: &[u32],
-    pres: &[u32],
-    posts: &[u32],
-    ends: &[u32],
-    items: &[u32],
-    fods: &[u32],
-    whispys: &[u32],
-    stadiums: &[u32],
-    item_offsets: &[u32],
-    fod_offsets: &[u32],
-    whispy_offsets: &[u32],
-    stadium_offsets: &[u32],
-    presence: &[u8],
+    lent: &Lent<'_>,
 ) -> usize
-    requires { let all = lent
-        (cells ids.now starts.now pres.now posts.now ends.now
-        items.now fods.now whispys.now stadiums.now)
-        (offsets item_offsets.now fod_offsets.now whispy_offsets.now stadium_offsets.now)
-        presence.now in
-        Supplied shapes s all (length ids.now)
-        × (i < length ids.now)
+    requires { let all = lent_in lent.now in
+        Supplied shapes s all (length lent.now.cells.ids.now)
+        × (i < length lent.now.cells.ids.now)
         × Room out.old at (frame_bytes shapes s all i) }
-    ensures { let all = lent
-        (cells ids.now starts.now pres.now posts.now ends.now
-        items.now fods.now whispys.now stadiums.now)
-        (offsets item_offsets.now fod_offsets.now whispy_offsets.now stadium_offsets.now)
-        presence.now in
+    ensures { let all = lent_in lent.now in
         Wrote out.old out.new at result (frame_bytes shapes s all i) }
 {
-    let id = ids[i];
-    let n = ids.len();
-    let mut p = put_one(out, at, shapes.start, starts, id, i);
-    p = put_players(out, p, shapes.pre, s, pres, presence, id, i);
-    p = put_between(
+    let id = lent.cells.ids[i];
+    let n = lent.cells.ids.len();
+    let mut p = put_one(out, at, shapes.start, lent.cells.starts, id, i);
+    p = put_players(out, p, shapes.pre, s, lent.cells.pres, lent.presence, id, i);
+    p = put_between(out, p, shapes, lent, n, id, i);
+    p = put_players(
         out,
         p,
-        shapes,
-        items,
-        fods,
-        whispys,
-        stadiums,
-        item_offsets,
-        fod_offsets,
-        whispy_offsets,
-        stadium_offsets,
-        n,
+        shapes.post,
+        s,
+        lent.cells.posts,
+        lent.presence,
         id,
         i,
     );
-    p = put_players(out, p, shapes.post, s, posts, presence, id, i);
-    put_one(out, p, shapes.end, ends, id, i)
+    put_one(out, p, shapes.end, lent.cells.ends, id, i)
 }
 
 // The frames from a on and before b, by the shapes of their families: whoever writes several runs of one input makes the shapes once. Eight frames that have the same
@@ -85,86 +59,26 @@ pub fn put_run(
     s: Slots,
     a: usize,
     b: usize,
-    ids: &[u32],
-    starts: &[u32],
-    pres: &[u32],
-    posts: &[u32],
-    ends: &[u32],
-    items: &[u32],
-    fods: &[u32],
-    whispys: &[u32],
-    stadiums: &[u32],
-    item_offsets: &[u32],
-    fod_offsets: &[u32],
-    whispy_offsets: &[u32],
-    stadium_offsets: &[u32],
-    presence: &[u8],
+    lent: &Lent<'_>,
 ) -> usize
-    requires { let all = lent
-        (cells ids.now starts.now pres.now posts.now ends.now
-        items.now fods.now whispys.now stadiums.now)
-        (offsets item_offsets.now fod_offsets.now whispy_offsets.now stadium_offsets.now)
-        presence.now in
-        Supplied shapes s all (length ids.now)
+    requires { let all = lent_in lent.now in
+        Supplied shapes s all (length lent.now.cells.ids.now)
         × (a ≤ b)
-        × (b ≤ length ids.now)
+        × (b ≤ length lent.now.cells.ids.now)
         × Room out.old at (ranged (frame_bytes shapes s all) a (b - a)) }
-    ensures { let all = lent
-        (cells ids.now starts.now pres.now posts.now ends.now
-        items.now fods.now whispys.now stadiums.now)
-        (offsets item_offsets.now fod_offsets.now whispy_offsets.now stadium_offsets.now)
-        presence.now in
+    ensures { let all = lent_in lent.now in
         Wrote out.old out.new at result (ranged (frame_bytes shapes s all) a (b - a)) }
 {
     let whole = is_whole(s);
     let mut p = at;
     let mut i = a;
+    // The index goes on by eight or by one, as no range does.
     while i < b {
-        if is_team(whole, s, presence, i, b) {
-            p = put_eight(
-                out,
-                p,
-                i,
-                shapes,
-                s,
-                ids,
-                starts,
-                pres,
-                posts,
-                ends,
-                items,
-                fods,
-                whispys,
-                stadiums,
-                item_offsets,
-                fod_offsets,
-                whispy_offsets,
-                stadium_offsets,
-                presence,
-            );
+        if is_team(whole, s, lent.presence, i, b) {
+            p = put_eight(out, p, i, shapes, s, lent);
             i += 8;
         } else {
-            p = put_frame(
-                out,
-                p,
-                i,
-                shapes,
-                s,
-                ids,
-                starts,
-                pres,
-                posts,
-                ends,
-                items,
-                fods,
-                whispys,
-                stadiums,
-                item_offsets,
-                fod_offsets,
-                whispy_offsets,
-                stadium_offsets,
-                presence,
-            );
+            p = put_frame(out, p, i, shapes, s, lent);
             i += 1;
         }
     }
@@ -179,59 +93,17 @@ pub fn put_frames(
     s: Slots,
     a: usize,
     b: usize,
-    ids: &[u32],
-    starts: &[u32],
-    pres: &[u32],
-    posts: &[u32],
-    ends: &[u32],
-    items: &[u32],
-    fods: &[u32],
-    whispys: &[u32],
-    stadiums: &[u32],
-    item_offsets: &[u32],
-    fod_offsets: &[u32],
-    whispy_offsets: &[u32],
-    stadium_offsets: &[u32],
-    presence: &[u8],
+    lent: &Lent<'_>,
 ) -> usize
-    requires { let all = lent
-        (cells ids.now starts.now pres.now posts.now ends.now
-        items.now fods.now whispys.now stadiums.now)
-        (offsets item_offsets.now fod_offsets.now whispy_offsets.now stadium_offsets.now)
-        presence.now in
+    requires { let all = lent_in lent.now in
         Framed f all
         × Slotted f s
         × (a ≤ b)
         × (b ≤ f.counts.frames)
         × Room out.old at (events_bytes (ranged (frame_events f all) a (b - a))) }
-    ensures { let all = lent
-        (cells ids.now starts.now pres.now posts.now ends.now
-        items.now fods.now whispys.now stadiums.now)
-        (offsets item_offsets.now fod_offsets.now whispy_offsets.now stadium_offsets.now)
-        presence.now in
+    ensures { let all = lent_in lent.now in
         Wrote out.old out.new at result (events_bytes (ranged (frame_events f all) a (b - a))) }
 {
     let shapes = shapes_of(f);
-    put_run(
-        out,
-        at,
-        shapes,
-        s,
-        a,
-        b,
-        ids,
-        starts,
-        pres,
-        posts,
-        ends,
-        items,
-        fods,
-        whispys,
-        stadiums,
-        item_offsets,
-        fod_offsets,
-        whispy_offsets,
-        stadium_offsets,
-        presence,
-    )
+    put_run(out, at, shapes, s, a, b, lent)
 }

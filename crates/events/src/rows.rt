@@ -74,10 +74,8 @@ fn put_range(
         follower: 0,
     };
     let mut p = at;
-    let mut j = a;
-    while j < b {
+    for j in a..b {
         p = put_row(out, p, h, &m.widths, m.count, m.bytes, cells, m.rows, j);
-        j += 1;
     }
     p
 }
@@ -120,21 +118,16 @@ pub fn put_players(
     ensures { Wrote out.old out.new at result (slots_bytes m s cells.now presence.now id i) }
 {
     let mut p = at;
-    let mut first = i;
-    let mut k: usize = 0;
-    while k < s.count {
-        let h = Head {
-            code: m.code,
-            id,
-            player: true,
-            port: s.ports[k],
-            follower: s.followers[k],
-        };
-        let here = is_present(presence, s.at[k], s.len[k], i);
-        let row = first;
-        first += m.block;
-        k += 1;
-        if here {
+    for k in 0..s.count {
+        if is_present(presence, s.at[k], s.len[k], i) {
+            let h = Head {
+                code: m.code,
+                id,
+                player: true,
+                port: s.ports[k],
+                follower: s.followers[k],
+            };
+            let row = k * m.block + i;
             p = put_row(out, p, h, &m.widths, m.count, m.bytes, cells, m.rows, row);
         }
     }

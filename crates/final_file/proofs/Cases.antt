@@ -99,7 +99,7 @@ unfolding needed place_of
 places = (refl, refl)
 
 first : (scratch : ℕ) → 3 ≤ scratch → 0 ≡ lowest (judged_first three good scratch)
-first scratch h = none_refused three good scratch 0 (sym accepted.0) refl 130 (sym places.0) (lit≤ tt) h
+first scratch h = none_refused three good scratch (sym accepted.0) 130 (sym places.0) (lit≤ tt) h
 
 total : length (final_file three good) ≡ 537
 total = total_is (ready three good 3 (sym (first 3 (lit≤ tt)))) 521 (sym raw) 1 refl
@@ -114,8 +114,8 @@ unfolding final_refusals
 numbers = (
   sym (went_on _ _ 0 (first 3 (lit≤ tt)) refl (numbered_first three good 3) (skip 12 _ _ _ (le-ltb 537 (length (final_file three good)) (omega (arith, total))) none)),
   sym (went_on _ _ 12 (first 3 (lit≤ tt)) refl (numbered_first three good 3) (here 12 _ _ (lt-ltb 536 (length (final_file three good)) (omega (arith, total))))),
-  sym (stopped _ _ (scratch_refused three good 2 0 (sym accepted.0) refl 130 (sym places.0) (lit≤ tt) (lit< tt)) (λ z. omega arith)),
-  sym (stopped _ _ (range_refused three _ 0 0 (sym accepted.1) refl 1048577 (sym places.1) (lit< tt)) (λ z. omega arith)),
+  sym (stopped _ _ (scratch_refused three good 2 (sym accepted.0) 130 (sym places.0) (lit≤ tt) (lit< tt)) (λ z. omega arith)),
+  sym (stopped _ _ (range_refused three _ 0 (sym accepted.1) 1048577 (sym places.1) (lit< tt)) (λ z. omega arith)),
 )
 
 -- ---- each number of the writer's, in its order: a row with an id out of range, no scratch and no output, so that 13 and 12 apply as well

@@ -11,7 +11,7 @@ use native.Mathlib.Nat.{one-mul}
 use lib.Bits.{bit_or}
 use lib.Pow.{shl_exact}
 use lib.Dec.{eqb, leb, ltb, lit<}
-use lib.ListN.{length, get_or, set, drop, replicate, length-replicate, length-set}
+use lib.ListN.{length, get_or, set, drop, replicate, length-replicate, length-set, get_or-replicate, get_or-eq_default}
 use lib.Seq.{drop-cons, drop-length}
 use Rattle.wire.proofs.Laws.{tabulated, stored}
 use Rattle.rollback.specs.Mask.{occurs, place, needed, repeats, mask_of}
@@ -191,6 +191,14 @@ lost_long s e = s.long ∙ e
 pub record Swept (ids : List ℕ) (base : ℕ) (mask : List ℕ) : Type 0 where
   pub long : length mask ≡ length ids
   pub at : (i : ℕ) → i < length ids → get_or mask i 0 ≡ cond (ltb (place (get_or ids i 0)) base && is_lost ids i) 1 0
+
+-- zeros at every place
+pub zero_at : (n i : ℕ) → get_or (replicate {A = ℕ} n 0) i 0 ≡ 0
+zero_at n i =
+    elim (dec_lt i n) [
+      | yes l ↦ get_or-replicate n i 0 0 l
+      | no r ↦ get_or-eq_default (replicate {A = ℕ} n 0) 0 {n = i} (omega (arith, length-replicate {A = ℕ} n 0, r))
+    ]
 
 pub swept_none : {ids mask : List ℕ} → length mask ≡ length ids → ((i : ℕ) → get_or mask i 0 ≡ 0) → Swept ids 0 mask
 swept_none {ids} e z = record { long = e; at = λ i l. z i ∙ sym (rw (le-ltb (place (get_or ids i 0)) 0 (omega arith))) }

@@ -1,7 +1,7 @@
 // How many bytes the events of one frame have.
 ghost use Rattle.std.specs.Prelude.{◌≡◌, cond, ◌+◌, ◌*◌, ◌≤◌, ◌<◌};
 ghost use Rattle.game.specs.Frames.{slots_of};
-ghost use Rattle.game.specs.Stores.{offsets};
+ghost use Rattle.game.specs.Held.{offsets_in};
 ghost use Rattle.players.specs.Inner.{Slotted, Modest};
 ghost use Rattle.frames.specs.Inner.{Placed};
 ghost use Rattle.layout.specs.declared.columns.Family.TheVariants.{Item, FodPlatform, DreamlandWhispy, StadiumTransformation};
@@ -10,6 +10,7 @@ ghost use Rattle.final_rows.specs.Inner.{length_of, Sized};
 
 use format::version::Version;
 use game::frames::Frames;
+use game::stores::Offsets;
 use layout::columns::Family;
 use layout::payloads::record_size;
 use players::presence::is_present;
@@ -75,11 +76,8 @@ fn players_in(f: Frames, s: Slots, presence: &[u8], i: usize) -> usize
     ensures { (result ≡ players_over presence.now (slots_of f) i 1) × (result ≤ 8) }
 {
     let mut n: usize = 0;
-    let mut k: usize = 0;
-    while k < s.count {
-        let here = is_present(presence, s.at[k], s.len[k], i);
-        k += 1;
-        if here {
+    for k in 0..s.count {
+        if is_present(presence, s.at[k], s.len[k], i) {
             n += 1;
         }
     }
@@ -90,31 +88,28 @@ pub fn frame_len(
     f: Frames,
     z: Sizes,
     s: Slots,
-    item_offsets: &[u32],
-    fod_offsets: &[u32],
-    whispy_offsets: &[u32],
-    stadium_offsets: &[u32],
+    offsets: &Offsets<'_>,
     presence: &[u8],
     i: usize,
 ) -> usize
     requires { Modest f × Slotted f s × Sized f.version z
-        × (Placed f Item item_offsets.now × Placed f FodPlatform fod_offsets.now
-        × Placed f DreamlandWhispy whispy_offsets.now × Placed f StadiumTransformation stadium_offsets.now)
+        × (Placed f Item offsets.now.items.now × Placed f FodPlatform offsets.now.fods.now
+        × Placed f DreamlandWhispy offsets.now.whispys.now × Placed f StadiumTransformation offsets.now.stadiums.now)
         × (i < f.counts.frames) }
     ensures { result ≡ length_of f
-        (offsets item_offsets.now fod_offsets.now whispy_offsets.now stadium_offsets.now)
+        (offsets_in offsets.now)
         presence.now i }
 {
     let players = players_in(f, s, presence, i);
-    let fods = rows_len(f, Family::FodPlatform, z.fod, fod_offsets, i);
-    let whispys = rows_len(f, Family::DreamlandWhispy, z.whispy, whispy_offsets, i);
+    let fods = rows_len(f, Family::FodPlatform, z.fod, offsets.fods, i);
+    let whispys = rows_len(f, Family::DreamlandWhispy, z.whispy, offsets.whispys, i);
     let stadiums = rows_len(
         f,
         Family::StadiumTransformation,
         z.stadium,
-        stadium_offsets,
+        offsets.stadiums,
         i,
     );
-    let items = rows_len(f, Family::Item, z.item, item_offsets, i);
+    let items = rows_len(f, Family::Item, z.item, offsets.items, i);
     z.frame + (players * z.player + (fods + (whispys + (stadiums + items))))
 }

@@ -1,12 +1,13 @@
 // The rows that are not final, a window of ids at a time: swept from the last row back, a row whose id was seen is not.
 ghost use Rattle.std.specs.Prelude.{◌≡◌, ◌&&◌, cond, ℕ, ◌+◌, ◌-◌, ◌≤◌, ◌<◌, length, get_or};
-ghost use Rattle.game.specs.Stores.{offsets};
+ghost use Rattle.game.specs.Held.{offsets_in};
 ghost use Rattle.rollback.specs.Mask.{mask_of, needed};
 ghost use Rattle.rollback.specs.declared.frame.Rollbacks.TheVariants.{ExceptLast};
 ghost use Rattle.final_rows.specs.Inner.{in_window, bit_at, seen_after, Sized, Countable, lost_in, lost_length, Lost};
 
 use super::sizes::{Sizes, frame_len};
 use game::frames::Frames;
+use game::stores::Offsets;
 use players::slots::Slots;
 use rollback::{place_of, scratch_len};
 
@@ -38,37 +39,22 @@ fn window_len(
     z: Sizes,
     s: Slots,
     ids: &[u32],
-    item_offsets: &[u32],
-    fod_offsets: &[u32],
-    whispy_offsets: &[u32],
-    stadium_offsets: &[u32],
+    offsets: &Offsets<'_>,
     presence: &[u8],
     base: usize,
 ) -> usize
     requires { Sized f.version z × Countable f s ids.now
-        (offsets item_offsets.now fod_offsets.now whispy_offsets.now stadium_offsets.now) presence.now }
+        (offsets_in offsets.now) presence.now }
     ensures { result ≡ lost_in f ids.now
-        (offsets item_offsets.now fod_offsets.now whispy_offsets.now stadium_offsets.now)
+        (offsets_in offsets.now)
         presence.now base }
 {
     let mut marks = [0u8; 4096];
     let mut n: usize = 0;
-    let mut k = ids.len();
-    while 0 < k {
-        k -= 1;
+    for k in (0..ids.len()).rev() {
         let p = place_of(ids[k]);
         if seen(&mut marks, base, p) {
-            n += frame_len(
-                f,
-                z,
-                s,
-                item_offsets,
-                fod_offsets,
-                whispy_offsets,
-                stadium_offsets,
-                presence,
-                k,
-            );
+            n += frame_len(f, z, s, offsets, presence, k);
         }
     }
     n
@@ -80,35 +66,19 @@ pub fn lost_len(
     z: Sizes,
     s: Slots,
     ids: &[u32],
-    item_offsets: &[u32],
-    fod_offsets: &[u32],
-    whispy_offsets: &[u32],
-    stadium_offsets: &[u32],
+    offsets: &Offsets<'_>,
     presence: &[u8],
 ) -> usize
     requires { Sized f.version z × Countable f s ids.now
-        (offsets item_offsets.now fod_offsets.now whispy_offsets.now stadium_offsets.now) presence.now }
+        (offsets_in offsets.now) presence.now }
     ensures { result ≡ lost_length f ids.now
-        (offsets item_offsets.now fod_offsets.now whispy_offsets.now stadium_offsets.now)
+        (offsets_in offsets.now)
         presence.now }
 {
-    let need = scratch_len(ids);
+    let windows = scratch_len(ids).div_ceil(IDS);
     let mut n: usize = 0;
-    let mut base: usize = 0;
-    while base < need {
-        n += window_len(
-            f,
-            z,
-            s,
-            ids,
-            item_offsets,
-            fod_offsets,
-            whispy_offsets,
-            stadium_offsets,
-            presence,
-            base,
-        );
-        base += IDS;
+    for w in 0..windows {
+        n += window_len(f, z, s, ids, offsets, presence, w * IDS);
     }
     n
 }
@@ -119,23 +89,11 @@ fn window_mask(ids: &[u32], mask: &mut [u8], base: usize)
     ensures { Lost ids.now base 0 mask.old mask.new }
 {
     let mut marks = [0u8; 4096];
-    let mut k = ids.len();
-    while 0 < k {
-        k -= 1;
+    for k in (0..ids.len()).rev() {
         let p = place_of(ids[k]);
         if seen(&mut marks, base, p) {
             mask[k] = 1;
         }
-    }
-}
-
-fn clear(bytes: &mut [u8])
-    ensures { (length bytes.new ≡ length bytes.old) × ((i : ℕ) → get_or bytes.new i 0 ≡ 0) }
-{
-    let mut i: usize = 0;
-    while i < bytes.len() {
-        bytes[i] = 0;
-        i += 1;
     }
 }
 
@@ -144,11 +102,8 @@ pub fn mask_rows(ids: &[u32], mask: &mut [u8])
     requires { (length mask.old ≡ length ids.now) × (needed ids.now ≤ 1048576) }
     ensures { mask.new ≡ mask_of ExceptLast ids.now }
 {
-    clear(mask);
-    let need = scratch_len(ids);
-    let mut base: usize = 0;
-    while base < need {
-        window_mask(ids, mask, base);
-        base += IDS;
+    mask.fill(0);
+    for w in 0..scratch_len(ids).div_ceil(IDS) {
+        window_mask(ids, mask, w * IDS);
     }
 }

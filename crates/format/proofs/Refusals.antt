@@ -68,3 +68,17 @@ lowest_first (r ∷ rs) ts e = go r.applies e (λ z. lowest_first rs ts z)
     go : (b : Bool) → cond b r.number (lowest (rs ++ ts)) ≡ 0 → (lowest (rs ++ ts) ≡ 0 → lowest rs ≡ 0) → cond b r.number (lowest rs) ≡ 0
     go true z rest = z
     go false z rest = rest z
+
+-- ---- the lowest is below what every number is below
+unfoldable pub Below : ℕ → List Refusal → Type 0
+Below n [] = 0 < n
+Below n (r ∷ rs) = (r.number < n) × Below n rs
+
+pub lowest_below : (n : ℕ) (rs : List Refusal) → Below n rs → lowest rs < n
+unfolding lowest Below
+lowest_below n [] b = b
+lowest_below n (r ∷ rs) b = go r.applies (lowest_below n rs b.1)
+  where
+    go : (x : Bool) → lowest rs < n → cond x r.number (lowest rs) < n
+    go true h = b.0
+    go false h = h

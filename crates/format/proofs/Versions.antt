@@ -6,7 +6,11 @@ use Prim.Native.Nat.{ℕ, ◌≤◌, ◌<◌}
 use native.Mathlib.Omega.{arith}
 use mathlib.Core.Logic.{◌⊎◌, inl, inr}
 use lib.Dec.{T, ltb, leb, eqb}
-use borrow.Author.Tests.{lt-ltb, le-ltb, lt-leb, eq-eqb, ne_eqb, ltb-true, ltb-false, leb-true, leb-false, eqb-true, eqb-false}
+use borrow.Author.Tests.{lt-ltb, le-ltb, lt-leb, le-leb, eq-eqb, ne_eqb, ltb-true, ltb-false, leb-true, leb-false, eqb-true, eqb-false}
+use native.Mathlib.Decide.{dec_lt}
+use Rattle.std.specs.Prelude.{Option, Some}
+use Rattle.std.specs.declared.cmp.Ordering.{Ordering}
+use Rattle.std.specs.Ordering.{is_le, is_some_and, nat_cmp, partial_ordering_then}
 use Rattle.format.specs.Version.{above, gte_of}
 use Rattle.format.specs.declared.version.Version.{Version}
 
@@ -14,13 +18,33 @@ pub is_above : (a b : ℕ) (rest : Bool) → b < a → true ≡ above a b rest
 unfolding above
 is_above a b rest h = rw (lt-ltb b a h)
 
-pub is_below : (a b : ℕ) (rest : Bool) → a < b → false ≡ above a b rest
-unfolding above
-is_below a b rest h = rw (le-ltb b a (omega arith), ne_eqb a b (omega arith))
-
 pub is_same : (a b : ℕ) (r rest : Bool) → b ≤ a → a ≤ b → r ≡ rest → r ≡ above a b rest
 unfolding above
 is_same a b r rest h k e = rw (le-ltb b a k, eq-eqb a b (omega arith)) e
+
+-- what is compared first decides, and then the rest does
+pub le_first : (a b : ℕ) (r : Option Ordering) (rest : Bool) → is_some_and is_le r ≡ rest → is_some_and is_le (partial_ordering_then (Some (nat_cmp b a)) r) ≡ above a b rest
+unfolding above
+le_first a b r rest e =
+    elim (dec_lt b a) [
+      | yes l ↦ rw (lt-ltb b a l)
+      | no l ↦
+          elim (dec_lt a b) [
+            | yes m ↦ rw (le-ltb b a (omega arith), ne_eqb b a (λ q. absurd (omega arith)), ne_eqb a b (λ q. absurd (omega arith)))
+            | no m ↦ let q : b ≡ a = omega arith in rw (le-ltb b a (omega arith), eq-eqb b a q, eq-eqb a b (sym q)) e
+          ]
+    ]
+
+pub le_last : (a b : ℕ) → is_some_and is_le (Some (nat_cmp b a)) ≡ leb b a
+le_last a b =
+    elim (dec_lt b a) [
+      | yes l ↦ rw (lt-ltb b a l, le-leb b a (omega arith))
+      | no l ↦
+          elim (dec_lt a b) [
+            | yes m ↦ rw (le-ltb b a (omega arith), ne_eqb b a (λ q. absurd (omega arith)), lt-leb b a m)
+            | no m ↦ let q : b ≡ a = omega arith in rw (le-ltb b a (omega arith), eq-eqb b a q, le-leb b a (omega arith))
+          ]
+    ]
 
 pub is_true : (b : Bool) → T b → b ≡ true
 is_true true t = refl

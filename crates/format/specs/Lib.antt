@@ -4,3 +4,4 @@ pub mod Event
 pub mod File
 pub mod Refusal
 pub mod Mark
+pub mod Refused

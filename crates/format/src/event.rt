@@ -5,67 +5,53 @@ ghost use Rattle.format.specs.Event.{code_of, signature};
 
 #[derive(Clone, Copy)]
 pub enum Event {
-    Payloads,
-    GameStart,
-    FramePre,
-    FramePost,
-    GameEnd,
-    FrameStart,
-    Item,
-    FrameEnd,
-    GeckoCodes,
-    MessageSplitter,
-    FodPlatform,
-    DreamlandWhispy,
-    StadiumTransformation,
+    Payloads = 0x35,
+    GameStart = 0x36,
+    FramePre = 0x37,
+    FramePost = 0x38,
+    GameEnd = 0x39,
+    FrameStart = 0x3A,
+    Item = 0x3B,
+    FrameEnd = 0x3C,
+    GeckoCodes = 0x3D,
+    MessageSplitter = 0x10,
+    FodPlatform = 0x3F,
+    DreamlandWhispy = 0x40,
+    StadiumTransformation = 0x41,
 }
 
 // The codes by name, for code that tells events apart by their first byte.
-pub const PAYLOADS: u8 = 0x35;
+pub const PAYLOADS: u8 = Event::Payloads as u8;
 
-pub const GAME_START: u8 = 0x36;
+pub const GAME_START: u8 = Event::GameStart as u8;
 
-pub const FRAME_PRE: u8 = 0x37;
+pub const FRAME_PRE: u8 = Event::FramePre as u8;
 
-pub const FRAME_POST: u8 = 0x38;
+pub const FRAME_POST: u8 = Event::FramePost as u8;
 
-pub const GAME_END: u8 = 0x39;
+pub const GAME_END: u8 = Event::GameEnd as u8;
 
-pub const FRAME_START: u8 = 0x3A;
+pub const FRAME_START: u8 = Event::FrameStart as u8;
 
-pub const ITEM: u8 = 0x3B;
+pub const ITEM: u8 = Event::Item as u8;
 
-pub const FRAME_END: u8 = 0x3C;
+pub const FRAME_END: u8 = Event::FrameEnd as u8;
 
-pub const GECKO_CODES: u8 = 0x3D;
+pub const GECKO_CODES: u8 = Event::GeckoCodes as u8;
 
-pub const MESSAGE_SPLITTER: u8 = 0x10;
+pub const MESSAGE_SPLITTER: u8 = Event::MessageSplitter as u8;
 
-pub const FOD_PLATFORM: u8 = 0x3F;
+pub const FOD_PLATFORM: u8 = Event::FodPlatform as u8;
 
-pub const DREAMLAND_WHISPY: u8 = 0x40;
+pub const DREAMLAND_WHISPY: u8 = Event::DreamlandWhispy as u8;
 
-pub const STADIUM_TRANSFORMATION: u8 = 0x41;
+pub const STADIUM_TRANSFORMATION: u8 = Event::StadiumTransformation as u8;
 
 impl Event {
     pub fn code(self) -> u8
         ensures { result ≡ code_of self }
     {
-        match self {
-            Event::Payloads => PAYLOADS,
-            Event::GameStart => GAME_START,
-            Event::FramePre => FRAME_PRE,
-            Event::FramePost => FRAME_POST,
-            Event::GameEnd => GAME_END,
-            Event::FrameStart => FRAME_START,
-            Event::Item => ITEM,
-            Event::FrameEnd => FRAME_END,
-            Event::GeckoCodes => GECKO_CODES,
-            Event::MessageSplitter => MESSAGE_SPLITTER,
-            Event::FodPlatform => FOD_PLATFORM,
-            Event::DreamlandWhispy => DREAMLAND_WHISPY,
-            Event::StadiumTransformation => STADIUM_TRANSFORMATION,
-        }
+        self as u8
     }
 }
 

@@ -1,4 +1,90 @@
-// The numbers with which calls refuse, by the names of the C header where it has them.
+// Why calls refuse. Each refusal has a number, by which the C header names it.
+ghost use Rattle.std.specs.Prelude.{◌≡◌};
+ghost use Rattle.format.specs.Refused.{number_of, number_in};
+
+#[derive(Clone, Copy, Debug, PartialEq, Eq)]
+pub enum Refusal {
+    // The writer, the masks and the rows.
+    VersionTooNew,
+    TooMany,
+    BadStore,
+    WideCell,
+    BadOffsets,
+    BadPresence,
+    BadPorts,
+    BadBlock,
+    BadStart,
+    BadCodes,
+    BadEnd,
+    ShortOutput,
+    OutOfRange,
+    // The reader, and its program.
+    NotAReplay,
+    BadTable,
+    UnknownEvent,
+    BadPlace,
+    LongInput,
+    // A replay read back into columns, and the check of another tool's file.
+    BadEvents,
+    // The metadata's map.
+    TooDeep,
+    LongText,
+    RepeatedKey,
+    BadBody,
+    // The index of a replay.
+    NoIndex,
+    BadIndex,
+    OtherReplay,
+    NoSuchId,
+}
+
+impl Refusal {
+    pub fn number(self) -> u8
+        ensures { result ≡ number_of self }
+    {
+        match self {
+            Refusal::VersionTooNew => VERSION_TOO_NEW,
+            Refusal::TooMany => TOO_MANY,
+            Refusal::BadStore => BAD_STORE,
+            Refusal::WideCell => WIDE_CELL,
+            Refusal::BadOffsets => BAD_OFFSETS,
+            Refusal::BadPresence => BAD_PRESENCE,
+            Refusal::BadPorts => BAD_PORTS,
+            Refusal::BadBlock => BAD_BLOCK,
+            Refusal::BadStart => BAD_START,
+            Refusal::BadCodes => BAD_CODES,
+            Refusal::BadEnd => BAD_END,
+            Refusal::ShortOutput => SHORT_OUTPUT,
+            Refusal::OutOfRange => OUT_OF_RANGE,
+            Refusal::NotAReplay => NOT_A_REPLAY,
+            Refusal::BadTable => BAD_TABLE,
+            Refusal::UnknownEvent => UNKNOWN_EVENT,
+            Refusal::BadPlace => BAD_PLACE,
+            Refusal::LongInput => LONG_INPUT,
+            Refusal::BadEvents => BAD_EVENTS,
+            Refusal::TooDeep => TOO_DEEP,
+            Refusal::LongText => LONG_TEXT,
+            Refusal::RepeatedKey => REPEATED_KEY,
+            Refusal::BadBody => BAD_BODY,
+            Refusal::NoIndex => NO_INDEX,
+            Refusal::BadIndex => BAD_INDEX,
+            Refusal::OtherReplay => OTHER_REPLAY,
+            Refusal::NoSuchId => NO_SUCH_ID,
+        }
+    }
+}
+
+// The number of an answer's refusal, and 0 where it is none.
+pub fn number_in(answer: Result<(), Refusal>) -> u8
+    ensures { result ≡ number_in answer }
+{
+    match answer {
+        Ok(()) => 0,
+        Err(why) => why.number(),
+    }
+}
+
+// The numbers, by the names of the C header where it has them.
 
 // The writer, the masks and the rows.
 pub const VERSION_TOO_NEW: u8 = 1;

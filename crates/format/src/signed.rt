@@ -7,19 +7,12 @@ ghost use Rattle.std.proofs.Common.{to_z};
 pub fn signed8(x: u32) -> i8
     ensures { result ≡ to_z w8 (x % 256) }
 {
-    let b = x % 256;
-    if b < 128 {
-        return b as i8;
-    }
-    ((b as i32) - 256) as i8
+    ((x % 256) as u8).cast_signed()
 }
 
 // A cell, as a signed number.
 pub fn signed32(x: u32) -> i32
     ensures { result ≡ to_z w32 x }
 {
-    if x < 2147483648 {
-        return x as i32;
-    }
-    ((x as i64) - 4294967296) as i32
+    x.cast_signed()
 }

@@ -3,7 +3,7 @@ ghost use Rattle.std.specs.Prelude.{◌≡◌};
 ghost use Rattle.format.specs.Version.{version, gte_of, has_codes, has_initiator, has_placements, accepted_of};
 
 #[repr(C)]
-#[derive(Clone, Copy)]
+#[derive(Clone, Copy, PartialEq, PartialOrd)]
 pub struct Version {
     pub major: u8,
     pub minor: u8,
@@ -32,13 +32,7 @@ impl Version {
     pub fn gte(self, major: u8, minor: u8) -> bool
         ensures { result ≡ gte_of self major minor }
     {
-        if major < self.major {
-            return true;
-        }
-        if self.major < major {
-            return false;
-        }
-        minor <= self.minor
+        (major, minor) <= (self.major, self.minor)
     }
 
     // Whether codes may be given.
@@ -66,19 +60,6 @@ impl Version {
     pub fn accepted(self) -> bool
         ensures { result ≡ accepted_of self }
     {
-        let newest = Version::NEWEST;
-        if self.major < newest.major {
-            return true;
-        }
-        if newest.major < self.major {
-            return false;
-        }
-        if self.minor < newest.minor {
-            return true;
-        }
-        if newest.minor < self.minor {
-            return false;
-        }
-        self.patch <= newest.patch
+        self <= Version::NEWEST
     }
 }

@@ -1,6 +1,6 @@
 -- The laws of the tests of presence bytes and port columns.
 -- Assumes nothing.
-use mathlib.Core.Path.{◌≡◌, sym, ap, ◌∙◌}
+use mathlib.Core.Path.{◌≡◌, refl, sym, ap, ◌∙◌}
 use mathlib.Core.Bool.{Bool, true, false, not}
 use mathlib.Core.List.{List, [], ◌∷◌, map}
 use Prim.Native.Nat.{ℕ, zero, suc, ◌+◌, ◌/◌, ◌≤◌, ◌<◌}
@@ -63,6 +63,17 @@ length_numbers f = length-map (ports_of f) (λ (p : PortColumn). p.port)
 pub number_at : (f : Frames) (k : ℕ) (p : PortColumn) → p ≡ get_or (ports_of f) k no_port → p.port ≡ get_or (port_numbers f) k 0
 unfolding port_numbers
 number_at f k p e = ap (λ (q : PortColumn). q.port) e ∙ sym (get_or-map (λ (q : PortColumn). q.port) (ports_of f) k no_port)
+
+-- a test of the numbers is one of the port columns
+pub numbers_from : (test : ℕ → Bool) (f : Frames) (k : ℕ) → map (λ (p : PortColumn). test p.port) (drop k (ports_of f)) ≡ map test (drop k (port_numbers f))
+unfolding port_numbers
+numbers_from test f k = go k (ports_of f)
+  where
+    go : (k : ℕ) (ps : List PortColumn) → map (λ (p : PortColumn). test p.port) (drop k ps) ≡ map test (drop k (map (λ (p : PortColumn). p.port) ps))
+    go zero [] = refl
+    go zero (p ∷ ps) = ap (λ (l : List Bool). test p.port ∷ l) (go zero ps)
+    go (suc k) [] = refl
+    go (suc k) (p ∷ ps) = go k ps
 
 pub twice_here : (r : Bool) (ns : List ℕ) (k : ℕ) → k < length ns → one_of (map (eqb (get_or ns k 0)) (drop (k + 1) ns)) ≡ true → r ≡ twice (drop k ns) → true ≡ r
 unfolding twice

@@ -1,10 +1,11 @@
 // Refusal 5: the offsets, by which a frame finds its rows.
 ghost use Rattle.std.specs.Prelude.{◌≡◌, ◌≤◌};
-ghost use Rattle.game.specs.Stores.{offsets};
+ghost use Rattle.game.specs.Held.{offsets_in};
 ghost use Rattle.frames.specs.Judge.{falls, strays, misleads, offsets_mislead};
 ghost use Rattle.players.specs.Inner.{Modest};
 
 use game::frames::Frames;
+use game::stores::Offsets;
 use layout::columns::Family;
 
 // Whether an offset is below the one before it. All of them are looked at, several at a time: nearly always none is.
@@ -12,10 +13,8 @@ fn one_falls(os: &[u32]) -> bool
     ensures { result ≡ falls os.now }
 {
     let mut found = false;
-    let mut i: usize = 1;
-    while i < os.len() {
+    for i in 1..os.len() {
         found = found | (os[i] < os[i - 1]);
-        i += 1;
     }
     found
 }
@@ -48,19 +47,13 @@ fn family_misleads(f: Frames, family: Family, os: &[u32]) -> bool
     (os.len() != 0) | (rows != 0)
 }
 
-pub fn offsets_mislead(
-    f: Frames,
-    items: &[u32],
-    fods: &[u32],
-    whispys: &[u32],
-    stadiums: &[u32],
-) -> bool
+pub fn offsets_mislead(f: Frames, offsets: &Offsets<'_>) -> bool
     requires { Modest f }
-    ensures { result ≡ offsets_mislead f (offsets items.now fods.now whispys.now stadiums.now) }
+    ensures { result ≡ offsets_mislead f (offsets_in offsets.now) }
 {
-    let item = family_misleads(f, Family::Item, items);
-    let fod = family_misleads(f, Family::FodPlatform, fods);
-    let whispy = family_misleads(f, Family::DreamlandWhispy, whispys);
-    let stadium = family_misleads(f, Family::StadiumTransformation, stadiums);
+    let item = family_misleads(f, Family::Item, offsets.items);
+    let fod = family_misleads(f, Family::FodPlatform, offsets.fods);
+    let whispy = family_misleads(f, Family::DreamlandWhispy, offsets.whispys);
+    let stadium = family_misleads(f, Family::StadiumTransformation, offsets.stadiums);
     item | (fod | (whispy | stadium))
 }

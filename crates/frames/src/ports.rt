@@ -1,7 +1,8 @@
 // Refusals 6 and 7: the presence bytes, and the port columns.
-ghost use Rattle.std.specs.Prelude.{◌≡◌, false, map, ◌+◌, ◌≤◌, ◌<◌, ltb, eqb, length, get_or, drop};
+ghost use Rattle.std.specs.Prelude.{◌≡◌, Bool, false, map, ◌+◌, ◌≤◌, ◌<◌, ltb, eqb, length, get_or, drop};
 ghost use Rattle.layout.specs.Columns.{sum};
 ghost use Rattle.game.specs.Frames.{ports_of, port_bytes};
+ghost use Rattle.game.specs.declared.frames.PortColumn.{PortColumn};
 ghost use Rattle.format.specs.Refusal.{one_of};
 ghost use Rattle.players.specs.Presence.{uneven, port_uneven, ports_uneven, presence_wrong};
 ghost use Rattle.frames.specs.Judge.{port_numbers, twice, ports_wrong};
@@ -33,19 +34,35 @@ fn is_port_uneven(frames: usize, p: PortColumn) -> bool
     p.follower_presence != 0
 }
 
+// Whether one of the port columns from index k on passes a test.
+fn some_port<F: Fn(PortColumn) -> bool>(f: Frames, k: usize, test: F) -> bool
+    requires { F.IsAlwaysCallable test }
+    ensures { (p : PortColumn → Bool)
+        → ((x : PortColumn) (b : Bool) → F.post test x b → b ≡ p x)
+        → result ≡ one_of (map p (drop k (ports_of f))) }
+{
+    let columns = f.ports_in();
+    for j in k..columns {
+        if test(f.port(j)) {
+            return true;
+        }
+    }
+    false
+}
+
 fn are_ports_uneven(f: Frames) -> bool
     requires { Modest f }
     ensures { result ≡ ports_uneven f }
 {
-    let columns = f.ports_in();
-    let mut k = 0;
-    while k < columns {
-        if is_port_uneven(f.counts.frames, f.port(k)) {
-            return true;
-        }
-        k += 1;
-    }
-    false
+    let frames = f.counts.frames;
+    some_port(
+        f,
+        0,
+        |p|
+            requires { frames ≤ 1048576 }
+            ensures { result ≡ port_uneven frames p }
+        { is_port_uneven(frames, p) },
+    )
 }
 
 // How many presence bytes all slots have together.
@@ -55,10 +72,8 @@ fn presence_bytes(f: Frames) -> usize
 {
     let columns = f.ports_in();
     let mut n: usize = 0;
-    let mut k = 0;
-    while k < columns {
+    for k in 0..columns {
         n += f.port(k).bytes();
-        k += 1;
     }
     n
 }
@@ -84,41 +99,23 @@ fn port_number(f: Frames, k: usize) -> u8
 fn port_above(f: Frames) -> bool
     ensures { result ≡ one_of (map (ltb 3) (port_numbers f)) }
 {
-    let columns = f.ports_in();
-    let mut k = 0;
-    while k < columns {
-        if 3 < port_number(f, k) {
-            return true;
-        }
-        k += 1;
-    }
-    false
+    some_port(f, 0, |p| 3 < p.port)
 }
 
 // Whether a port stands among those from index k on.
 fn port_again(f: Frames, port: u8, k: usize) -> bool
     ensures { result ≡ one_of (map (eqb port) (drop k (port_numbers f))) }
 {
-    let columns = f.ports_in();
-    let mut j = k;
-    while j < columns {
-        if port == port_number(f, j) {
-            return true;
-        }
-        j += 1;
-    }
-    false
+    some_port(f, k, |p| port == p.port)
 }
 
 fn port_twice(f: Frames) -> bool
     ensures { result ≡ twice (port_numbers f) }
 {
     let columns = f.ports_in();
-    let mut k = 0;
-    while k < columns {
+    for k in 0..columns {
         let port = port_number(f, k);
-        k += 1;
-        if port_again(f, port, k) {
+        if port_again(f, port, k + 1) {
             return true;
         }
     }

@@ -1,13 +1,14 @@
 // Refusals 3 and 4: the lengths of the stores, and the widths of their cells.
 ghost use Rattle.std.specs.Prelude.{◌≡◌, false, map, ℕ, ◌+◌, ◌*◌, ◌-◌, ◌^◌, ◌≤◌, leb, length, drop};
 ghost use Rattle.wire.specs.Wire.{part};
-ghost use Rattle.game.specs.Stores.{cells};
+ghost use Rattle.game.specs.Held.{cells_in};
 ghost use Rattle.format.specs.Refusal.{one_of};
 ghost use Rattle.frames.specs.Judge.{misfits, stores_misfit, over, columns_exceed, blocks_exceed, exceeds, cells_exceed};
 ghost use Rattle.players.specs.Inner.{Modest};
 ghost use Rattle.frames.specs.Inner.{run_widths, Whole};
 
 use game::frames::Frames;
+use game::stores::Cells;
 use layout::columns::Family;
 use layout::listing::{Runs, columns, runs_of};
 use players::slots::blocks;
@@ -32,10 +33,8 @@ fn united(cells: &[u32], at: usize, end: usize) -> u32
     ensures { (k : ℕ) → leb (2 ^ k) result ≡ one_of (map (leb (2 ^ k)) (part cells.now at (end - at))) }
 {
     let mut all: u32 = 0;
-    let mut i = at;
-    while i < end {
+    for i in at..end {
         all |= cells[i];
-        i += 1;
     }
     all
 }
@@ -59,8 +58,7 @@ fn block_exceeds(runs: Runs, cells: &[u32], at: usize, rows: usize) -> bool
     ensures { result ≡ columns_exceed (run_widths runs) rows (drop at cells.now) }
 {
     let mut from = at;
-    let mut k: usize = 0;
-    while k < runs.count {
+    for k in 0..runs.count {
         let width = runs.widths[k];
         let n = runs.lengths[k] as usize;
         let end = from + n * rows;
@@ -68,7 +66,6 @@ fn block_exceeds(runs: Runs, cells: &[u32], at: usize, rows: usize) -> bool
             return true;
         }
         from = end;
-        k += 1;
     }
     false
 }
@@ -78,13 +75,11 @@ fn blocks_exceed(runs: Runs, cells: &[u32], blocks: usize, rows: usize) -> bool
     ensures { result ≡ blocks_exceed blocks (run_widths runs) rows cells.now }
 {
     let mut at: usize = 0;
-    let mut k: usize = 0;
-    while k < blocks {
+    for _ in 0..blocks {
         if block_exceeds(runs, cells, at, rows) {
             return true;
         }
         at += runs.columns * rows;
-        k += 1;
     }
     false
 }
@@ -103,63 +98,38 @@ fn store_exceeds(f: Frames, family: Family, store: &[u32]) -> bool
     blocks_exceed(runs, store, blocks, rows)
 }
 
+// The stores come one by one, as the C interface lends them, and each stands in a line beside its family: an array of the pairs would have the same lines
+// and a loop besides.
+
 // 3: a cell store's length is not columns of this version times rows (times slots).
-pub fn stores_misfit(
-    f: Frames,
-    ids: &[u32],
-    starts: &[u32],
-    pres: &[u32],
-    posts: &[u32],
-    ends: &[u32],
-    items: &[u32],
-    fods: &[u32],
-    whispys: &[u32],
-    stadiums: &[u32],
-) -> bool
+pub fn stores_misfit(f: Frames, cells: &Cells<'_>) -> bool
     requires { Modest f }
-    ensures { result ≡ stores_misfit f (cells
-        ids.now starts.now pres.now posts.now ends.now
-        items.now fods.now whispys.now stadiums.now) }
+    ensures { result ≡ stores_misfit f (cells_in cells.now) }
 {
-    let start = store_misfits(f, Family::FrameStart, starts);
-    let pre = store_misfits(f, Family::Pre, pres);
-    let post = store_misfits(f, Family::Post, posts);
-    let end = store_misfits(f, Family::FrameEnd, ends);
-    let item = store_misfits(f, Family::Item, items);
-    let fod = store_misfits(f, Family::FodPlatform, fods);
-    let whispy = store_misfits(f, Family::DreamlandWhispy, whispys);
-    let stadium = store_misfits(f, Family::StadiumTransformation, stadiums);
-    (ids.len() != f.counts.frames)
+    let start = store_misfits(f, Family::FrameStart, cells.starts);
+    let pre = store_misfits(f, Family::Pre, cells.pres);
+    let post = store_misfits(f, Family::Post, cells.posts);
+    let end = store_misfits(f, Family::FrameEnd, cells.ends);
+    let item = store_misfits(f, Family::Item, cells.items);
+    let fod = store_misfits(f, Family::FodPlatform, cells.fods);
+    let whispy = store_misfits(f, Family::DreamlandWhispy, cells.whispys);
+    let stadium = store_misfits(f, Family::StadiumTransformation, cells.stadiums);
+    (cells.ids.len() != f.counts.frames)
         | (start | (pre | (post | (end | (item | (fod | (whispy | stadium)))))))
 }
 
 // 4: a cell exceeds its width. The ids have four bytes, and so no limit.
-pub fn cells_exceed(
-    f: Frames,
-    ids: &[u32],
-    starts: &[u32],
-    pres: &[u32],
-    posts: &[u32],
-    ends: &[u32],
-    items: &[u32],
-    fods: &[u32],
-    whispys: &[u32],
-    stadiums: &[u32],
-) -> bool
-    requires { stores_misfit f (cells
-        ids.now starts.now pres.now posts.now ends.now
-        items.now fods.now whispys.now stadiums.now) ≡ false }
-    ensures { result ≡ cells_exceed f (cells
-        ids.now starts.now pres.now posts.now ends.now
-        items.now fods.now whispys.now stadiums.now) }
+pub fn cells_exceed(f: Frames, cells: &Cells<'_>) -> bool
+    requires { stores_misfit f (cells_in cells.now) ≡ false }
+    ensures { result ≡ cells_exceed f (cells_in cells.now) }
 {
-    let start = store_exceeds(f, Family::FrameStart, starts);
-    let pre = store_exceeds(f, Family::Pre, pres);
-    let post = store_exceeds(f, Family::Post, posts);
-    let end = store_exceeds(f, Family::FrameEnd, ends);
-    let item = store_exceeds(f, Family::Item, items);
-    let fod = store_exceeds(f, Family::FodPlatform, fods);
-    let whispy = store_exceeds(f, Family::DreamlandWhispy, whispys);
-    let stadium = store_exceeds(f, Family::StadiumTransformation, stadiums);
+    let start = store_exceeds(f, Family::FrameStart, cells.starts);
+    let pre = store_exceeds(f, Family::Pre, cells.pres);
+    let post = store_exceeds(f, Family::Post, cells.posts);
+    let end = store_exceeds(f, Family::FrameEnd, cells.ends);
+    let item = store_exceeds(f, Family::Item, cells.items);
+    let fod = store_exceeds(f, Family::FodPlatform, cells.fods);
+    let whispy = store_exceeds(f, Family::DreamlandWhispy, cells.whispys);
+    let stadium = store_exceeds(f, Family::StadiumTransformation, cells.stadiums);
     start | (pre | (post | (end | (item | (fod | (whispy | stadium))))))
 }

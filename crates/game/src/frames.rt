@@ -1,4 +1,5 @@
-// The frame input: plain data by value. The stores are lent beside it.
+// The frame input: plain data by value, in the C interface's form, which has its arrays with a count beside and its marks as bytes. The stores are lent
+// beside it.
 ghost use Rattle.std.specs.Prelude.{◌≡◌, ◌^◌, ◌≤◌, ◌<◌, length, get_or};
 ghost use Rattle.game.specs.Frames.{follows, no_port, port_bytes, ports_of, rows_of};
 
@@ -59,11 +60,7 @@ impl Frames {
     pub fn ports_in(self) -> usize
         ensures { (result ≡ length (ports_of self)) × (result ≤ 4) }
     {
-        if 4 < self.port_count {
-            4
-        } else {
-            self.port_count
-        }
+        self.port_count.min(4)
     }
 
     pub fn port(self, k: usize) -> PortColumn
@@ -78,11 +75,10 @@ impl Frames {
         ensures { result ≡ rows_of self family }
     {
         match family {
-            Family::Pre => self.counts.frames,
-            Family::Post => self.counts.frames,
-            Family::FrameStart => self.counts.frames,
+            Family::Pre | Family::Post | Family::FrameStart | Family::FrameEnd => self
+                .counts
+                .frames,
             Family::Item => self.counts.items,
-            Family::FrameEnd => self.counts.frames,
             Family::FodPlatform => self.counts.fods,
             Family::DreamlandWhispy => self.counts.whispys,
             Family::StadiumTransformation => self.counts.stadiums,

@@ -9,6 +9,7 @@ use start::Start;
 pub mod end;
 pub mod frames;
 pub mod start;
+pub mod stores;
 
 #[repr(C)]
 #[derive(Clone, Copy)]

@@ -83,8 +83,8 @@ pub struct Scene {
 // The bytes of a block after the zero that ends its match id, through 751: zeros, or what the template has there.
 #[derive(Clone, Copy)]
 pub enum MatchTail {
-    Cleared,
-    Kept,
+    Cleared = 0,
+    Kept = 1,
 }
 
 impl MatchTail {
@@ -92,13 +92,10 @@ impl MatchTail {
     pub fn number(self) -> u8
         ensures { result ≡ match_tail_number self }
     {
-        match self {
-            MatchTail::Cleared => 0,
-            MatchTail::Kept => 1,
-        }
+        self as u8
     }
 
-    // 0 is cleared, every other number kept.
+    // 0 is cleared, every other number kept: a rule with a name, which a bare `from` would not say.
     pub fn of(number: u8) -> MatchTail
         ensures { result ≡ match_tail_of number }
     {

@@ -14,41 +14,30 @@ fn eight_at(places: &[usize], i: usize) -> [usize; 8]
     ensures { Eight places.now i result }
 {
     let mut at = [0usize; 8];
-    let mut t: usize = 0;
-    while t < 8 {
-        at[t] = places[i + t];
-        t += 1;
-    }
+    at.copy_from_slice(&places[i..i + 8]);
     at
 }
 
-// The eight cells of a column of four bytes, which stand `off` behind the eight places that the table has from i on.
-fn get_fours(file: &[u8], places: &[usize], i: usize, off: usize, cells: &mut [u32], first: usize)
-    requires { (first + 8 ≤ length cells.old)
+// The eight cells of a column, which stand `off` behind the eight places that the table has from i on. Inlined, since a caller knows the width.
+#[inline(always)]
+fn get_whole(
+    file: &[u8],
+    places: &[usize],
+    i: usize,
+    off: usize,
+    width: usize,
+    cells: &mut [u32],
+    first: usize,
+)
+    requires { (width ≤ 4)
+        × (first + 8 ≤ length cells.old)
         × (i + 8 ≤ length places.now)
-        × Reach file.now places.now i (off + 4) }
-    ensures { cells.new ≡ rows_at (4 ∷ []) file.now places.now i off 8 cells.old 0 first }
+        × Reach file.now places.now i (off + width) }
+    ensures { cells.new ≡ rows_at (width ∷ []) file.now places.now i off 8 cells.old 0 first }
 {
-    let mut t: usize = 0;
-    while t < 8 {
+    for t in 0..8 {
         let p = places[i + t] + off;
-        cells[first + t] = get_four(file, p);
-        t += 1;
-    }
-}
-
-// The eight cells of a column of single bytes.
-fn get_ones(file: &[u8], places: &[usize], i: usize, off: usize, cells: &mut [u32], first: usize)
-    requires { (first + 8 ≤ length cells.old)
-        × (i + 8 ≤ length places.now)
-        × Reach file.now places.now i (off + 1) }
-    ensures { cells.new ≡ rows_at (1 ∷ []) file.now places.now i off 8 cells.old 0 first }
-{
-    let mut t: usize = 0;
-    while t < 8 {
-        let p = places[i + t] + off;
-        cells[first + t] = file[p] as u32;
-        t += 1;
+        cells[first + t] = wire::get_be(file, p, width);
     }
 }
 
@@ -71,11 +60,9 @@ fn get_narrow(
 {
     let over = 1u64 << (8 * (width as u64));
     let base = off + width - 4;
-    let mut t: usize = 0;
-    while t < 8 {
+    for t in 0..8 {
         let p = places[i + t] + base;
         cells[first + t] = ((get_four(file, p) as u64) % over) as u32;
-        t += 1;
     }
 }
 
@@ -97,11 +84,11 @@ fn get_column(
     ensures { cells.new ≡ rows_at (width ∷ []) file.now places.now i off 8 cells.old 0 first }
 {
     if width == 4 {
-        get_fours(file, places, i, off, cells, first);
+        get_whole(file, places, i, off, 4, cells, first);
         return;
     }
     if width == 1 {
-        get_ones(file, places, i, off, cells, first);
+        get_whole(file, places, i, off, 1, cells, first);
         return;
     }
     get_narrow(file, places, i, off, width, cells, first);
@@ -128,12 +115,10 @@ pub fn get_records(
     let at = eight_at(places, i);
     let mut p = off;
     let mut x = first;
-    let mut k: usize = 0;
-    while k < widths.len() {
-        let w = wire::wide(widths[k]);
+    for width in widths {
+        let w = wire::wide(*width);
         get_column(file, &at, 0, p, w, cells, x);
         p += w;
         x += stride;
-        k += 1;
     }
 }

@@ -10,9 +10,10 @@ use native.Mathlib.Decide.{ℕ_discrete}
 use native.Mathlib.Omega.{arith}
 use borrow.Author.Tests.{lt-ltb, le-ltb, eq-eqb, ne_eqb, ltb-false, eqb-true, not-false}
 use lib.Dec.{eqb, ltb}
-use lib.ListN.{length, get_or, drop, set, length-set, drop_of_length-le, get_or-replicate, get_or-eq_default}
+use lib.Pointwise.{pointwise}
+use lib.ListN.{length, get_or, take, drop, set, length-set, drop_of_length-le, get_or-replicate, get_or-eq_default}
 use lib.Seq.{drop-cons, get_or-drop, drop-drop, get_or-set_same, get_or-set_other}
-use Rattle.wire.specs.Wire.{more, number, part}
+use Rattle.wire.specs.Wire.{number, part}
 use Rattle.wire.proofs.Laws.{tabulate_length, tabulate_at, tabulated, stored}
 use Rattle.format.specs.Event.{signature}
 use Rattle.format.specs.File.{Entry}
@@ -23,6 +24,20 @@ use Rattle.head.specs.Table.{starts_with, stop_of, all_present, entries_in, tabl
 use Rattle.head.specs.Inner.{list_of, Sound, Blank, Indexed, Agree, HeadOf}
 use Rattle.head.specs.declared.table.Head.{Head}
 use Rattle.head.specs.declared.table.Table.{Table}
+
+-- as slices are compared
+eqb_comm : (a b : ℕ) → eqb a b ≡ eqb b a
+eqb_comm a b =
+    elim (ℕ_discrete a b) [
+      | yes e ↦ eq-eqb a b e ∙ sym (eq-eqb b a (sym e))
+      | no n ↦ ne_eqb a b n ∙ sym (ne_eqb b a (λ e. n (sym e)))
+    ]
+
+pub starts_same : (xs ys : List ℕ) → pointwise eqb xs (take (length xs) ys) ≡ starts_with xs ys
+unfolding starts_with
+starts_same [] ys = refl
+starts_same (x ∷ xs) [] = refl
+starts_same (x ∷ xs) (y ∷ ys) = ap₂ (λ (a b : Bool). a && b) (eqb_comm x y) (starts_same xs ys)
 
 -- one byte of a signature
 pub starts_step : (xs ys : List ℕ) (i : ℕ) → i < length xs → i < length ys

@@ -35,7 +35,7 @@ const NEAR: usize = 7;
 pub fn near(len: usize) -> usize
     ensures { result ≤ len }
 {
-    if len < NEAR { len } else { NEAR }
+    len.min(NEAR)
 }
 
 // How many bytes an event of this code takes: by n entries of the table, or by its index.
@@ -43,12 +43,10 @@ fn span_at(codes: &[u8], sizes: &[u16], n: usize, spans: &[u32], code: u8) -> us
     requires { (n ≤ length codes.now) × (n ≤ length sizes.now) × Agree codes.now sizes.now n spans.now × (length spans.now ≡ 256) }
     ensures { result ≡ get_or spans.now code 0 }
 {
-    let mut i = 0;
-    while i < n {
+    for i in 0..n {
         if codes[i] == code {
             return table::span(sizes[i]) as usize;
         }
-        i += 1;
     }
     spans[code as usize] as usize
 }

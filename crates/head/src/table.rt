@@ -1,8 +1,7 @@
 // The head of a replay: its signature, the declared length of its event data, and its payload table.
 ghost use Rattle.std.specs.Prelude.{◌≡◌, true, false, not, ◌+◌, ◌*◌, ◌≤◌, ◌<◌, length, drop};
 ghost use Rattle.wire.specs.Wire.{number, part};
-ghost use Rattle.format.specs.Event.{signature};
-ghost use Rattle.head.specs.Table.{starts_with, stop_of, all_present, entries_in, table_of, first_place, code_twice, table_missing, unsigned};
+ghost use Rattle.head.specs.Table.{stop_of, all_present, entries_in, table_of, first_place, code_twice, table_missing, unsigned};
 ghost use Rattle.head.specs.Inner.{list_of, Sound, Blank, Indexed, Agree, HeadOf};
 
 use format::event::{FILE_SIGNATURE, PAYLOADS};
@@ -46,22 +45,7 @@ fn size_at(file: &[u8], at: usize) -> u16
     requires { at + 1 < length file.now }
     ensures { result ≡ number (part file.now at 2) }
 {
-    (wire::wide(file[at]) * 256 + wire::wide(file[at + 1])) as u16
-}
-
-// Whether the file begins with the signature.
-fn signed(file: &[u8]) -> bool
-    requires { 15 ≤ length file.now }
-    ensures { result ≡ starts_with signature file.now }
-{
-    let mut i = 0;
-    while i < 11 {
-        if file[i] != FILE_SIGNATURE[i] {
-            return false;
-        }
-        i += 1;
-    }
-    true
+    u16::from_be_bytes([file[at], file[at + 1]])
 }
 
 // Event data runs from 15 for the declared length, or to a cut; where the length is zero, it was never filled in, and the data is cut.
@@ -108,12 +92,10 @@ fn entries(file: &[u8], n: usize) -> Table
 {
     let mut codes = [0u8; 84];
     let mut sizes = [0u16; 84];
-    let mut i = 0;
-    while i < n {
+    for i in 0..n {
         let at = 17 + 3 * i;
         codes[i] = file[at];
         sizes[i] = size_at(file, at + 1);
-        i += 1;
     }
     Table {
         codes,
@@ -129,9 +111,7 @@ fn index_of(t: Table, spans: &mut [u32]) -> bool
     ensures value { result ≡ not (code_twice (list_of t)) }
     ensures indexed { code_twice (list_of t) ≡ false → Indexed spans.new (list_of t) × Agree t.codes t.sizes t.len spans.new }
 {
-    let mut i = t.len;
-    while 0 < i {
-        i -= 1;
+    for i in (0..t.len).rev() {
         let c = wire::wide(t.codes[i]);
         if 0 < spans[c] {
             return false;
@@ -194,7 +174,7 @@ pub fn parse_head(file: &[u8], spans: &mut [u32]) -> Head
     if file.len() < 15 {
         return refused(NOT_A_REPLAY, 0);
     }
-    if signed(file) {
+    if file.starts_with(&FILE_SIGNATURE) {
         tabled(file, spans)
     } else {
         refused(NOT_A_REPLAY, 0)

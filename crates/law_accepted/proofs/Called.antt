@@ -32,9 +32,9 @@ use Rattle.measure.specs.Read.{partly_of, unopened, opened_in, laid_over, kept_s
 use Rattle.measure.specs.declared.Measured.{Measured}
 use Rattle.measure.specs.declared.Opened.{Opened}
 use Rattle.measure.proofs.Only.{only_measure}
-use Rattle.ser.specs.Write.{file, judged, refusal, write_answer, written_numbers, WriterOutcome}
-use Rattle.ser.specs.declared.written.Written.{Written}
-use Rattle.ser.specs.declared.written.Written.TheVariants.{File}
+use Rattle.ser.specs.Write.{file, judged, refusal, write_numbers, written_numbers, WriterOutcome}
+use Rattle.format.specs.Refused.{Answer}
+use Rattle.std.specs.Prelude.{Ok}
 use Rattle.ser.proofs.Outcomes.{numbered_eleven}
 use Rattle.law_accepted.specs.Again.{block_at, body_at, stores_again, lent_up_to, stores_left}
 use Rattle.law_accepted.proofs.Again.{again}
@@ -196,13 +196,13 @@ module _ (f : List ℕ) (given : Kept) where
 
   -- so that `write` answers with a file wherever there is room for it
   pub written_again : {m : Measured} {r : Opened} {left : Kept} → Bytes f → MeasureOutcome f m → ReadOutcome f given r left → r.refused ≡ 0 → r.partly ≡ 0
-      → (out after : List ℕ) (w : Written) → WriterOutcome r.game (stores_left f m.lengths r left) out w after
+      → (out after : List ℕ) (w : Answer ℕ) → WriterOutcome r.game (stores_left f m.lengths r left) out w after
       → length (file r.game (stores_left f m.lengths r left)) ≤ length out
-      → written_numbers w ≡ written_numbers (File (length (file r.game (stores_left f m.lengths r left))))
+      → written_numbers w ≡ written_numbers (Ok (length (file r.game (stores_left f m.lengths r left))))
   unfolding refusal
   written_again {m} {r} {left} b o h z p out after w done fits =
       let g = r.game in
       let s = stores_left f m.lengths r left in
       let n = length (file g s) in
       let accepted : refusal g s (length out) ≡ 0 = lowest_after (judged g s) _ (numbered_eleven g s) (called b o h z p) ∙ sym (skip 12 _ _ _ (le-ltb (length out) n fits) none_left) in
-      done.answer_is ∙ ap (λ (k : ℕ). written_numbers (write_answer k n)) accepted
+      done.answer_is ∙ ap (λ (k : ℕ). write_numbers k n) accepted

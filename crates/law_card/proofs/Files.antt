@@ -25,8 +25,8 @@ use Rattle.game.specs.Stores.{Stores}
 use Rattle.game.specs.declared.Game.{Game}
 use Rattle.game.specs.declared.frames.Frames.{Frames}
 use Rattle.game.specs.declared.frames.Counts.{Counts}
-use Rattle.ser.specs.Write.{entries, events, file, write_answer, refusal, WrittenNumbers, written_numbers, WriterOutcome}
-use Rattle.ser.specs.declared.written.Written.TheVariants.{File}
+use Rattle.ser.specs.Write.{entries, events, file, write_numbers, refusal, WrittenNumbers, written_numbers, WriterOutcome}
+use Rattle.std.specs.Prelude.{Ok}
 use Rattle.ser.proofs.Answered.{written_file}
 use Rattle.ser.proofs.EveryCut.{uncut}
 use Rattle.ser.proofs.Outcomes.{Passed}
@@ -170,12 +170,12 @@ read_beside {g} {h} {port} {s} {t} a x y =
     )
 
 -- ---- what `write` answered and left
-answered_length : (k n m : ℕ) → written_numbers (File n) ≡ written_numbers (write_answer k m) → n ≡ m
+answered_length : (k n m : ℕ) → written_numbers (Ok n) ≡ write_numbers k m → n ≡ m
 answered_length zero n m e = ap (λ (w : WrittenNumbers). w.len) e
 answered_length (suc k) n m e = let z : ◌≡◌ {A = ℕ} 0 1 = ap (λ (w : WrittenNumbers). w.kind) e in absurd (omega arith)
 
-module _ {g h : Game} {port : ℕ} {s t : Stores} (a : Agree g h port s t) {out out' to to' : List ℕ} {n m : ℕ} (x : WriterOutcome g s out (File n) out')
-    (y : WriterOutcome h t to (File m) to') where
+module _ {g h : Game} {port : ℕ} {s t : Stores} (a : Agree g h port s t) {out out' to to' : List ℕ} {n m : ℕ} (x : WriterOutcome g s out (Ok n) out')
+    (y : WriterOutcome h t to (Ok m) to') where
   pub answers_of_one_length : n ≡ m
   answers_of_one_length =
       answered_length (refusal g s (length out)) n _ x.answer_is ∙ files_of_one_length a ∙ sym (answered_length (refusal h t (length to)) m _ y.answer_is)

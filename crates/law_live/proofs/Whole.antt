@@ -12,7 +12,7 @@ use Rattle.wire.proofs.Writers.{wrote_then, wrote_length}
 use Rattle.game.specs.Stores.{Stores}
 use Rattle.game.specs.declared.Game.{Game}
 use Rattle.ser.specs.Write.{file, judged, WriterOutcome}
-use Rattle.ser.specs.declared.written.Written.TheVariants.{File}
+use Rattle.std.specs.Prelude.{Ok}
 use Rattle.ser.proofs.Outcomes.{Passed, passes, written}
 use Rattle.ser.proofs.Answered as answered
 use Rattle.ser.proofs.Sound.{length_fits}
@@ -62,7 +62,7 @@ laid x y z =
     wrote_then (record { next_is = omega (arith, p.next_is); after_is = p.after_is }) (wrote_then (ran y).wrote (record { next_is = q.next_is; after_is = q.after_is }))
 
 -- a recording is what `write` answers and leaves
-pub recorded : {g : Game} {s : Stores} {cs out out' : List ℕ} {n : ℕ} → Recording g s cs out n out' → WriterOutcome g s out (File n) out'
+pub recorded : {g : Game} {s : Stores} {cs out out' : List ℕ} {n : ℕ} → Recording g s cs out n out' → WriterOutcome g s out (Ok n) out'
 recorded {g} {s} {cs} {out} {out'} {n} r =
     let x = r.begun in
     let y = runs_joined cs r.runs in
@@ -86,10 +86,10 @@ recorded {g} {s} {cs} {out} {out'} {n} r =
     ∙ ap₂ (λ (l k : List ℕ). splice l 11 k) w.after_is (field_is (passes g s ok) _ long).1
     ∙ filled_in o 0 (data_length g s) rest out fits
     ∙ ap (splice out 0) (sym (file_is g s)) in
-    written 0 n (sym ok) refl size room (record { next_is = refl; after_is = after })
+    written n (sym ok) size room (record { next_is = refl; after_is = after })
 
 -- and whatever `write` answers with a file and leaves can be recorded so, in any runs
-pub recordable : {g : Game} {s : Stores} {out out' : List ℕ} {n : ℕ} (cs : List ℕ) → Between 0 cs g.frames.counts.frames → WriterOutcome g s out (File n) out' → Recording g s cs out n out'
+pub recordable : {g : Game} {s : Stores} {out out' : List ℕ} {n : ℕ} (cs : List ℕ) → Between 0 cs g.frames.counts.frames → WriterOutcome g s out (Ok n) out' → Recording g s cs out n out'
 recordable {g} {s} {out} {out'} {n} cs between w =
     let ok = answered.none_judged w in
     let long_enough : n ≤ length out = omega (arith, (answered.none_applies w).1, answered.room w) in

@@ -16,15 +16,13 @@ use Rattle.wire.proofs.Laws.{splice_is}
 use Rattle.format.specs.Refusal.{refuse, lowest}
 use Rattle.map.specs.Map.{text, number, map, body_of}
 use Rattle.map.specs.Rows.{cell_of, key_of, plain_of, row_wrong, Grown, Sprout, grown, value_at, entries_at, below, map_at}
-use Rattle.map.specs.Write.{lent_map, refusal_of, WriteMapOutcome}
-use Rattle.map.specs.declared.write.Written.{Written}
+use Rattle.map.specs.Write.{Written, lent_map, refusal_of, WriteMapOutcome}
 use Rattle.map.proofs.Laws.{worse_none}
 use Rattle.map.proofs.Outcomes.{accepted_of_lem}
 use Rattle.map.proofs.Turns.{unroll, row_there, value_plain, value_nested, below_none, below_is}
 use Rattle.map_reader.specs.Read.{Bytes, Seen}
 use Rattle.map_reader.specs.Back.{count_of, size_value, entry_count, map_rows}
-use Rattle.map_reader.specs.Answer.{whole_map, read_refusal, read_place, ReadMapOutcome}
-use Rattle.map_reader.specs.declared.read.MapRead.{MapRead}
+use Rattle.map_reader.specs.Answer.{MapRead, whole_map, read_refusal, read_place, ReadMapOutcome}
 use Rattle.map_reader.proofs.Sizes.{length_rows}
 use Rattle.law_map.specs.Terms.{Words, SameFront, extent}
 use Rattle.law_map.proofs.Stand.{stand}

@@ -18,7 +18,7 @@ use Rattle.game.specs.Stores.{Stores}
 use Rattle.game.specs.declared.Game.{Game}
 use Rattle.head.specs.Table.{stop_of, table_of, first_place, span_of}
 use Rattle.de.specs.Cut.{events_read}
-use Rattle.ser.specs.declared.written.Written.TheVariants.{File}
+use Rattle.std.specs.Prelude.{Ok}
 use Rattle.ser.specs.Write.{entries, file, WriterOutcome}
 use Rattle.ser.proofs.Answered.{written_file}
 use Rattle.grammar.specs.Productions.{Replay, events_of}
@@ -239,7 +239,7 @@ module _ {g : Game} {s : Stores} (a : Admitted g s) (ended : has_family g.frames
 
 -- ---- of what `write` answered and left
 
-pub cut_written : {g : Game} {s : Stores} (a : Admitted g s) (ended : has_family g.frames.version FrameEnd ≡ true) {out out' : List ℕ} {n : ℕ} (o : WriterOutcome g s out (File n) out') (bytes : Bytes (take n out'))
+pub cut_written : {g : Game} {s : Stores} (a : Admitted g s) (ended : has_family g.frames.version FrameEnd ≡ true) {out out' : List ℕ} {n : ℕ} (o : WriterOutcome g s out (Ok n) out') (bytes : Bytes (take n out'))
     (k : ℕ) (some : k ≤ length (file g s)) (after : place a 0 0 ≤ k) (w : List ℕ) (four : length w ≡ 4) (given : List ℕ) (answer : Repaired) (left : List ℕ)
     → RepairOutcome (splice (take k (take n out')) 11 w) given answer left → CutOutcome a ended (subst Bytes (written_file o) bytes) k some after w four given answer left
 cut_written a ended o bytes k some after w four given answer left x =

@@ -26,7 +26,7 @@ use Rattle.de.specs.Cut.{events_read, zeroed}
 use Rattle.de.specs.declared.Walked.{Walked}
 use Rattle.de.specs.declared.Walked.TheVariants as walked
 use Rattle.de.proofs.Runs.{run_stop}
-use Rattle.ser.specs.declared.written.Written.TheVariants.{File}
+use Rattle.std.specs.Prelude.{Ok}
 use Rattle.ser.specs.Write.{entries, events, file, WriterOutcome}
 use Rattle.ser.proofs.Answered.{none_applies, written_file}
 use Rattle.ser.proofs.Sound.{fresh, length_fits}
@@ -213,7 +213,7 @@ module _ {g : Game} {s : Stores} (a : Admitted g s) where
 
   -- ---- what `write` answered and left: its bytes are bytes, as those of every output
 
-  module _ (proper : yes g.metadata_given ≡ true → Metadata s.metadata) {out out' : List ℕ} {n : ℕ} (o : WriterOutcome g s out (File n) out') (bytes : Bytes (take n out'))
+  module _ (proper : yes g.metadata_given ≡ true → Metadata s.metadata) {out out' : List ℕ} {n : ℕ} (o : WriterOutcome g s out (Ok n) out') (bytes : Bytes (take n out'))
       (w : List ℕ) (four : length w ≡ 4) where
     abbrev saved : List ℕ
     saved = take n out'

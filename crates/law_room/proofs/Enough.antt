@@ -15,8 +15,8 @@ use Rattle.frames.specs.Judge.{too_many}
 use Rattle.game.specs.Stores.{Stores}
 use Rattle.game.specs.declared.Game.{Game}
 use Rattle.ser.specs.Length.{raw_length}
-use Rattle.ser.specs.Write.{given_bytes, file, refusal, write_answer, WrittenNumbers, written_numbers, WriterOutcome}
-use Rattle.ser.specs.declared.written.Written.TheVariants.{File}
+use Rattle.ser.specs.Write.{given_bytes, file, refusal, write_numbers, WrittenNumbers, written_numbers, WriterOutcome}
+use Rattle.std.specs.Prelude.{Ok}
 use Rattle.ser.proofs.Answered.{accepted}
 use Rattle.ser.proofs.Outcomes.{Passed}
 use Rattle.ser.proofs.Steps.{total_is}
@@ -65,11 +65,11 @@ module _ {g : Game} {s : Stores} (p : Passed g s) where
 
 -- ---- of the calls: what `write` answered, and what `room` answers
 
-answered_length : (k n m : ℕ) → written_numbers (File n) ≡ written_numbers (write_answer k m) → n ≡ m
+answered_length : (k n m : ℕ) → written_numbers (Ok n) ≡ write_numbers k m → n ≡ m
 answered_length zero n m e = ap (λ (w : WrittenNumbers). w.len) e
 answered_length (suc k) n m e = let z : ◌≡◌ {A = ℕ} 0 1 = ap (λ (w : WrittenNumbers). w.kind) e in absurd (omega arith)
 
-module _ {g : Game} {s : Stores} {out out' : List ℕ} {n : ℕ} (o : WriterOutcome g s out (File n) out') where
+module _ {g : Game} {s : Stores} {out out' : List ℕ} {n : ℕ} (o : WriterOutcome g s out (Ok n) out') where
   written_length : n ≡ length (file g s)
   written_length = answered_length (refusal g s (length out)) n (length (file g s)) o.answer_is
 

@@ -17,7 +17,7 @@ use Rattle.codes.specs.Blocks.{code_events}
 use Rattle.ending.specs.End.{end_events}
 use Rattle.ending.specs.Tail.{tail_of}
 use Rattle.ser.specs.Write.{entries, game_start_event, events, file, WriterOutcome}
-use Rattle.ser.specs.declared.written.Written.TheVariants.{File}
+use Rattle.std.specs.Prelude.{Ok}
 use Rattle.ser.proofs.Answered.{written_file}
 use Rattle.append.specs.Run.{run_bytes, RunOutcome}
 use Rattle.append.specs.declared.appended.Appended.TheVariants.{End}
@@ -69,7 +69,7 @@ module _ (g : Game) (s : Stores) where
 
 -- of the calls: whatever `write` answered with a file of n bytes, and `write_frames` for all frames of that game with an end place, what the one left behind the codes and before
 -- the ends is what the other left from its place up to that end
-pub same_bytes_lem : {g : Game} {s : Stores} {out out' to to' : List ℕ} {n place e : ℕ} → WriterOutcome g s out (File n) out'
+pub same_bytes_lem : {g : Game} {s : Stores} {out out' to to' : List ℕ} {n place e : ℕ} → WriterOutcome g s out (Ok n) out'
     → RunOutcome g.frames s.lent 0 g.frames.counts.frames place to (End e) to'
     → part (take n out') (length (before_frames g s)) (e - place) ≡ part to' place (e - place)
 same_bytes_lem {g} {s} {out' = out'} {place = place} {e = e} o r =

@@ -10,9 +10,9 @@ use Rattle.wire.specs.Wire.{splice}
 use Rattle.format.specs.declared.version.Version.{Version}
 use Rattle.game.specs.Stores.{Stores}
 use Rattle.game.specs.declared.Game.{Game}
-use Rattle.ser.specs.declared.written.Written.{Written}
-use Rattle.ser.specs.declared.written.Written.TheVariants.{File}
-use Rattle.ser.specs.Write.{file, refusal, write_answer, WrittenNumbers, written_numbers, left, WriterOutcome}
+use Rattle.format.specs.Refused.{Answer}
+use Rattle.std.specs.Prelude.{Ok}
+use Rattle.ser.specs.Write.{file, refusal, write_numbers, WrittenNumbers, written_numbers, left, WriterOutcome}
 use Rattle.ser.proofs.Answered.{written_file}
 use Rattle.grammar.specs.Productions.{Replay}
 use Rattle.law_tree.specs.Tree.{replay_of}
@@ -33,7 +33,7 @@ use Rattle.law_saved.proofs.Accepted.{accepted_again}
 use Rattle.law_saved.proofs.Fronts.{fronts_read}
 
 -- an answer that is a file
-file_long : (k n m : ℕ) → written_numbers (File n) ≡ written_numbers (write_answer k m) → n ≡ m
+file_long : (k n m : ℕ) → written_numbers (Ok n) ≡ write_numbers k m → n ≡ m
 file_long zero n m e = ap (λ (w : WrittenNumbers). w.len) e
 file_long (suc k) n m e = let z : ◌≡◌ {A = ℕ} 0 1 = ap (λ (w : WrittenNumbers). w.kind) e in absurd (omega arith)
 
@@ -84,16 +84,16 @@ module _ {g : Game} {s : Stores} (a : Admitted g s) where
 
   -- ---- and write again
 
-  written_again : (out out' : List ℕ) (w : Written) → length f ≤ length out → WriterOutcome (game_read f r) (stores_read f r) out w out'
-      → (written_numbers w ≡ written_numbers (File (length f))) × (out' ≡ splice out 0 f)
+  written_again : (out out' : List ℕ) (w : Answer ℕ) → length f ≤ length out → WriterOutcome (game_read f r) (stores_read f r) out w out'
+      → (written_numbers w ≡ written_numbers (Ok (length f))) × (out' ≡ splice out 0 f)
   written_again out out' w h o =
       let z = accepted_again a (length out) h in
       let same = game_back_lem a in (
-        o.answer_is ∙ ap₂ (λ (k : ℕ) (l : List ℕ). written_numbers (write_answer k (length l))) z same,
+        o.answer_is ∙ ap₂ (λ (k : ℕ) (l : List ℕ). write_numbers k (length l)) z same,
         o.out_is ∙ ap₂ (λ (k : ℕ) (l : List ℕ). left k out l) z same,
       )
 
-  module _ {out out' : List ℕ} {n : ℕ} (o : WriterOutcome g s out (File n) out') where
+  module _ {out out' : List ℕ} {n : ℕ} (o : WriterOutcome g s out (Ok n) out') where
     long : n ≡ length f
     long = file_long (refusal g s (length out)) n (length f) o.answer_is
 
@@ -124,11 +124,11 @@ module _ {g : Game} {s : Stores} (a : Admitted g s) where
         (subst (λ (y : Stores). GameReturned g s (game_read f r) y) (sym stores_are) (back.returned a))
 
     -- and written again it is the same file
-    pub saved_again : {m : Measured} {given : Kept} {x : Opened} {after : Kept} (again again' : List ℕ) (w : Written) → LongEnough m.lengths given → n ≤ length again
+    pub saved_again : {m : Measured} {given : Kept} {x : Opened} {after : Kept} (again again' : List ℕ) (w : Answer ℕ) → LongEnough m.lengths given → n ≤ length again
         → MeasureOutcome saved m → ReadOutcome saved given x after → WriterOutcome x.game (stores_from saved x.places (fronts m.lengths after)) again w again'
-        → (written_numbers w ≡ written_numbers (File n)) × (again' ≡ splice again 0 saved)
+        → (written_numbers w ≡ written_numbers (Ok n)) × (again' ≡ splice again 0 saved)
     saved_again {m} {given} {x} {after} again again' w fits room measure read write =
         let (game_is, stores_are) = came_back fits measure read in
         let (answer, left) = written_again again again' w (omega (arith, long, room))
         (subst (λ (y : Game). WriterOutcome y (stores_read f r) again w again') game_is (subst (λ (y : Stores). WriterOutcome x.game y again w again') stores_are write)) in
-        (answer ∙ ap (λ (k : ℕ). written_numbers (File k)) (sym long), left ∙ ap (splice again 0) (sym is))
+        (answer ∙ ap (λ (k : ℕ). written_numbers (Ok k)) (sym long), left ∙ ap (splice again 0) (sym is))

@@ -30,8 +30,8 @@ use Rattle.start.proofs.Views as views
 use Rattle.law_start.specs.Declared.{Declared, SeatDeclared}
 use Rattle.law_start.proofs.Order.{own_match, rank, misses_above}
 use Rattle.law_start.proofs.Fields.{game_spans, seats_spans, modes_spans}
-use Rattle.ser.specs.declared.written.Written.TheVariants.{File}
-use Rattle.ser.specs.Write.{file, refusal, write_answer, WrittenNumbers, written_numbers, WriterOutcome}
+use Rattle.std.specs.Prelude.{Ok}
+use Rattle.ser.specs.Write.{file, refusal, write_numbers, WrittenNumbers, written_numbers, WriterOutcome}
 use Rattle.ser.proofs.Answered.{accepted, written_file}
 use Rattle.ser.proofs.Files.{file_parts}
 use Rattle.ser.proofs.Viewed as viewed
@@ -44,7 +44,7 @@ use Rattle.ser.proofs.Tails.{tailed, id_len, InTail}
 arrays : (p : Seat) → SeatDeclared p → views.Arrays p
 arrays p d = record { tag = d.tag.long; name = d.name.long; code = d.code.long; suid = d.suid.long }
 
-module _ {g : Game} {s : Stores} {out out' : List ℕ} {n : ℕ} (o : WriterOutcome g s out (File n) out') (d : Declared g.start) where
+module _ {g : Game} {s : Stores} {out out' : List ℕ} {n : ℕ} (o : WriterOutcome g s out (Ok n) out') (d : Declared g.start) where
   -- what a viewer reads of each text of each player who is there
   pub texts_shown : (k : ℕ) → k < 4 → yes (get_or g.start.seats k no_seat).given ≡ true
       → views.Read g.frames.version (take n out') (block_place g s) k (get_or g.start.seats k no_seat)
@@ -90,11 +90,11 @@ module _ (v : Version) (s : Start) (d : Declared s) (good : bad_start v s ≡ fa
   in_block template short = part_clear template (fields v s) (702 + len) (50 - len) (λ i a b. not_stored i a (omega (arith, b, short)))
 
 -- an answer that is a file
-file_long : (k n m : ℕ) → written_numbers (File n) ≡ written_numbers (write_answer k m) → n ≡ m
+file_long : (k n m : ℕ) → written_numbers (Ok n) ≡ write_numbers k m → n ≡ m
 file_long zero n m e = ap (λ (w : WrittenNumbers). w.len) e
 file_long (suc k) n m e = let z : ◌≡◌ {A = ℕ} 0 1 = ap (λ (w : WrittenNumbers). w.kind) e in absurd (omega arith)
 
-module _ {g : Game} {s : Stores} {out out' : List ℕ} {n : ℕ} (o : WriterOutcome g s out (File n) out') where
+module _ {g : Game} {s : Stores} {out out' : List ℕ} {n : ℕ} (o : WriterOutcome g s out (Ok n) out') where
   -- cleared, every byte of the tail is zero
   pub tail_zero : reaches g.frames.version match_from ≡ true → g.start.match_info.tail ≡ 0
       → part (take n out') (block_place g s + (702 + id_len g)) (50 - id_len g) ≡ replicate (50 - id_len g) 0
@@ -114,7 +114,7 @@ module _ {g : Game} {s : Stores} {out out' : List ℕ} {n : ℕ} (o : WriterOutc
       ∙ in_block v g.start d p.start kept s.template short)
 
   -- both ways, from two calls: one length, and no byte outside the tail differs
-  module _ (k : ℕ) {to to' : List ℕ} {m : ℕ} (q : WriterOutcome (tailed k g) s to (File m) to') where
+  module _ (k : ℕ) {to to' : List ℕ} {m : ℕ} (q : WriterOutcome (tailed k g) s to (Ok m) to') where
     pub ways_of_one_length : n ≡ m
     ways_of_one_length =
         file_long (refusal g s (length out)) n (length (file g s)) o.answer_is ∙ sym (tails.same_length g s k) ∙ sym (file_long (refusal (tailed k g) s (length to)) m (length (file (tailed k g) s)) q.answer_is)

@@ -115,8 +115,7 @@ module _ (f spans : List ℕ) (v : Version) (first stop len : ℕ) (s : Started 
               let c = others_stand in
               absurd (no_wrong (sym (codes_wrong_lem v f spans stop (drop stop f) y.others at c.long c.here c.spanned q) ∙ p.coded))
           go (some t) q =
-              let c = others_stand in
-              let h = codes_found v f spans stop (drop stop f) y.others at c.long c.here c.spanned others_bytes t q in
+              let h = codes_found v f spans stop (drop stop f) y.others at others_stand.long others_stand.here others_stand.spanned others_bytes t q in
               let e = sym p.coded ∙ h.told.answer_is in
               let z : p.place ≡ stop - length (events_bytes t) = cc in
               record { t = t; rest_is = q; found = h; place_is = z }

@@ -8,7 +8,7 @@ use native.Mathlib.Omega.{arith}
 use borrow.Author.Tests.{eq-eqb, ne_eqb}
 use lib.Dec.{T, T_not, not_T, eqb, eqb→eq, eqb_refl, lit<, lit≤}
 use lib.ListN.{length, get_or, take, drop, drop_of_length-le}
-use lib.Seq.{drop-cons, length-take-le}
+use lib.Seq.{drop-cons}
 use native.Mathlib.Numerals.{add-one}
 use Rattle.wire.specs.Wire.{be}
 use Rattle.format.specs.Event.{code_of}
@@ -21,7 +21,8 @@ use Rattle.layout.specs.Columns.{chosen, widths_of, has_family}
 use Rattle.layout.specs.declared.columns.Family.{Family}
 use Rattle.layout.specs.declared.columns.Family.TheVariants.{Pre, Post, FrameStart, Item, FrameEnd, FodPlatform, DreamlandWhispy, StadiumTransformation}
 use Rattle.layout.specs.Payloads.{event_of, record_size, end_size, order, listed, payload_size, entry_of, entries_of}
-use Rattle.layout.specs.Inner.{paired, Tabled}
+use Rattle.layout.specs.Inner.{entry_as, Tabled}
+use Rattle.layout.specs.declared.payloads.PayloadSize.{PayloadSize}
 use Rattle.layout.specs.declared.payloads.PayloadSizes.{PayloadSizes}
 use Rattle.layout.proofs.Laws.{both, both_left, both_right, both_of, head_small, sum_narrow, narrow_of, few_widths, length_chosen}
 
@@ -208,28 +209,25 @@ module _ (v : Version) (block : ℕ) (given : Bool) (actual : ℕ) where
   family_at_home StadiumTransformation t = entry_at 11 event.StadiumTransformation (lit< tt) refl t
 
 -- ---- writing the entries: one turn, and the end
-pub entries_step : (cs ss : List ℕ) (i : ℕ) → i < length cs → i < length ss
-    → entries_bytes (paired (drop i cs) (drop i ss)) ≡ (get_or cs i 0 ∷ []) ++ (be 2 (get_or ss i 0) ++ entries_bytes (paired (drop (i + 1) cs) (drop (i + 1) ss)))
-unfolding entries_bytes paired
-entries_step cs ss i h k = rw (drop-cons cs i 0 h, drop-cons ss i 0 k, add-one i)
+pub entries_step : (es : List PayloadSize) (i : ℕ) (e d : PayloadSize) → i < length es → e ≡ get_or es i d
+    → entries_bytes (map entry_as (drop i es)) ≡ (e.code ∷ []) ++ (be 2 e.size ++ entries_bytes (map entry_as (drop (i + 1) es)))
+unfolding entries_bytes
+entries_step es i e d h q = rw (drop-cons es i d h, add-one i, q)
 
-pub entries_done : (cs ss : List ℕ) (i : ℕ) → length cs ≤ i → entries_bytes (paired (drop i cs) (drop i ss)) ≡ []
-unfolding entries_bytes paired
-entries_done cs ss i h = rw (drop_of_length-le cs h)
+pub entries_done : (es : List PayloadSize) (i : ℕ) → length es ≤ i → entries_bytes (map entry_as (drop i es)) ≡ []
+unfolding entries_bytes
+entries_done es i h = rw (drop_of_length-le es h)
 
-pub paired_table : (t : List Entry) → paired (codes t) (sizes t) ≡ t
-unfolding paired
-paired_table [] = refl
-paired_table (e ∷ t) = ap (λ (x : List Entry). e ∷ x) (paired_table t)
-
--- the table's event, part by part, from its codes and sizes in two arrays
+-- the table's event, part by part, from its entries in an array
 pub table_parts : (t : List Entry) (p : PayloadSizes) (b : ℕ) → b ≡ code_of event.Payloads → Tabled t p
-    → table_bytes t ≡ (b ∷ []) ++ (((3 * p.len + 1) ∷ []) ++ entries_bytes (paired (take p.len p.codes) (take p.len p.sizes)))
+    → table_bytes t ≡ (b ∷ []) ++ (((3 * p.len + 1) ∷ []) ++ entries_bytes (map entry_as (take p.len p.entries)))
 unfolding table_bytes
-table_parts t p b e h = rw (e, h.codes, h.sizes, paired_table t, h.count)
+table_parts t p b e h = rw (e, h.each, h.count)
 
-pub table_lengths : (t : List Entry) (p : PayloadSizes) → Tabled t p
-    → (p.len ≡ length (take p.len p.codes)) × (p.len ≡ length (take p.len p.sizes))
-table_lengths t p h =
-    let few = h.few in
-    (sym (length-take-le p.len p.codes (omega (arith, h.codes_room))), sym (length-take-le p.len p.sizes (omega (arith, h.sizes_room))))
+-- ---- the entries that are chosen
+abbrev pub sized_of : Version → ℕ → ℕ → Event → PayloadSize
+sized_of v block actual e = record { code = code_of e; size = payload_size v block actual e }
+
+pub entries_are : (v : Version) (block : ℕ) (given : Bool) (actual : ℕ) → map entry_as (chosen (listed v given) (sized_of v block actual) order) ≡ entries_of v block given actual
+unfolding entries_of
+entries_are v block given actual = map_chosen (listed v given) (sized_of v block actual) entry_as order

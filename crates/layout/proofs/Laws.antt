@@ -3,7 +3,7 @@
 use mathlib.Core.Path.{◌≡◌, refl, sym, ap, ◌∙◌}
 use mathlib.Core.Bool.{Bool, true, false, cond}
 use mathlib.Core.List.{List, [], ◌∷◌, ◌++◌, map, append_assoc, append-nil}
-use Prim.Native.Nat.{ℕ, ◌+◌, ◌*◌, ◌/◌, ◌%◌, ◌≤◌, ◌<◌}
+use Prim.Native.Nat.{ℕ, ◌+◌, ◌*◌, ◌≤◌, ◌<◌}
 use native.Mathlib.Nat.{add-zero, zero-add, add_assoc}
 use native.Mathlib.Numerals.{add-one}
 use native.Mathlib.Omega.{arith}
@@ -73,16 +73,16 @@ pub small : (f : Family) → count_of f ≤ 32
 small = each _ (lit≤ tt, lit≤ tt, lit≤ tt, lit≤ tt, lit≤ tt, lit≤ tt, lit≤ tt, lit≤ tt)
 
 -- ---- a loop that collects what is chosen of a list into an array: ws has what was chosen before element i, in its first n places
-module _ {A : Type 0} (d : A) (p : A → Bool) (f : A → ℕ) (xs : List A) where
-  unfoldable pub Collected : ℕ → ℕ → List ℕ → Type 0
+module _ {A B : Type 0} (d : A) (p : A → Bool) (f : A → B) (xs : List A) where
+  unfoldable pub Collected : ℕ → ℕ → List B → Type 0
   Collected i n ws = take n ws ++ chosen p f (drop i xs) ≡ chosen p f xs
 
-  pub collect_start : (ws : List ℕ) → Collected 0 0 ws
+  pub collect_start : (ws : List B) → Collected 0 0 ws
   unfolding Collected
   collect_start ws = refl
 
   -- a turn, with the value y and the test t that the code found for element i
-  pub collect_take : (i n : ℕ) (ws : List ℕ) (y : ℕ) (t : Bool) → i < length xs → n < length ws → y ≡ f (get_or xs i d) → t ≡ p (get_or xs i d) → t ≡ true
+  pub collect_take : (i n : ℕ) (ws : List B) (y : B) (t : Bool) → i < length xs → n < length ws → y ≡ f (get_or xs i d) → t ≡ p (get_or xs i d) → t ≡ true
       → Collected i n ws → Collected (i + 1) (n + 1) (set ws n y)
   unfolding Collected chosen
   collect_take i n ws y t h k v q g e =
@@ -90,13 +90,13 @@ module _ {A : Type 0} (d : A) (p : A → Bool) (f : A → ℕ) (xs : List A) whe
       rw (add-one i, add-one n, take-suc-set ws n y k, append_assoc, v)
       (rw (drop-cons xs i d h, g') at e)
 
-  pub collect_skip : (i n : ℕ) (ws : List ℕ) (t : Bool) → i < length xs → t ≡ p (get_or xs i d) → t ≡ false → Collected i n ws → Collected (i + 1) n ws
+  pub collect_skip : (i n : ℕ) (ws : List B) (t : Bool) → i < length xs → t ≡ p (get_or xs i d) → t ≡ false → Collected i n ws → Collected (i + 1) n ws
   unfolding Collected chosen
   collect_skip i n ws t h q g e =
       let g' : p (get_or xs i d) ≡ false = sym q ∙ g in
       rw (add-one i) (rw (drop-cons xs i d h, g') at e)
 
-  pub collect_done : (i n : ℕ) (ws : List ℕ) → length xs ≤ i → Collected i n ws → take n ws ≡ chosen p f xs
+  pub collect_done : (i n : ℕ) (ws : List B) → length xs ≤ i → Collected i n ws → take n ws ≡ chosen p f xs
   unfolding Collected chosen
   collect_done i n ws h e = sym (append-nil (take n ws)) ∙ rw (drop_of_length-le xs h) at e
 

@@ -1,14 +1,15 @@
 -- What the functions promise each other: the columns of all families as one table, a version's columns as an array and as runs of one width, and a
--- payload table as two arrays.
+-- payload table as an array of entries.
 -- Assumes nothing.
-use Rattle.std.specs.Prelude.{ℕ, ◌/◌, ◌%◌, ◌≤◌, ◌≡◌, List, [], ◌∷◌, ◌++◌, length, take, replicate}
-use Rattle.format.specs.File.{Entry, codes, sizes}
+use Rattle.std.specs.Prelude.{ℕ, ◌/◌, ◌%◌, ◌≤◌, ◌≡◌, List, [], ◌∷◌, ◌++◌, length, take, map, replicate}
+use Rattle.format.specs.File.{Entry}
 use Rattle.format.specs.declared.version.Version.{Version}
 use Rattle.layout.specs.Columns.{col, columns_of, widths_of, size_of}
 use Rattle.layout.specs.declared.columns.Column.{Column}
 use Rattle.layout.specs.declared.columns.Family.{Family}
 use Rattle.layout.specs.declared.columns.Family.TheVariants.{Pre, Post, FrameStart, Item, FrameEnd, FodPlatform, DreamlandWhispy, StadiumTransformation}
 use Rattle.layout.specs.declared.listing.Runs.{Runs}
+use Rattle.layout.specs.declared.payloads.PayloadSize.{PayloadSize}
 use Rattle.layout.specs.declared.payloads.PayloadSizes.{PayloadSizes}
 
 -- the one table, where each family's columns begin in it, and how many they are
@@ -71,17 +72,13 @@ unfoldable pub Narrow : List ℕ → Type 0
 Narrow [] = Unit {0}
 Narrow (w ∷ ws) = (w ≤ 4) × Narrow ws
 
--- the entries of these codes and sizes
-unfoldable pub paired : List ℕ → List ℕ → List Entry
-paired (c ∷ cs) (s ∷ ss) = record { code = c; size = s } ∷ paired cs ss
-paired [] ss = []
-paired (c ∷ cs) [] = []
+-- an entry of the code's, as the definition has it
+abbrev pub entry_as : PayloadSize → Entry
+entry_as e = record { code = e.code; size = e.size }
 
--- a table's codes and sizes in two arrays
+-- a table's entries are the first of an array
 pub record Tabled (t : List Entry) (p : PayloadSizes) : Type 0 where
   pub count : p.len ≡ length t
-  pub codes : take p.len p.codes ≡ codes t
-  pub sizes : take p.len p.sizes ≡ sizes t
+  pub each : map entry_as (take p.len p.entries) ≡ t
   pub few : p.len ≤ 12
-  pub codes_room : length p.codes ≡ 12
-  pub sizes_room : length p.sizes ≡ 12
+  pub room : length p.entries ≡ 12

@@ -23,46 +23,11 @@ impl Family {
         ensures { result ≡ first_version self }
     {
         match self {
-            Family::Pre => Version {
-                major: 0,
-                minor: 0,
-                patch: 0,
-            },
-            Family::Post => Version {
-                major: 0,
-                minor: 0,
-                patch: 0,
-            },
-            Family::FrameStart => Version {
-                major: 2,
-                minor: 2,
-                patch: 0,
-            },
-            Family::Item => Version {
-                major: 3,
-                minor: 0,
-                patch: 0,
-            },
-            Family::FrameEnd => Version {
-                major: 3,
-                minor: 0,
-                patch: 0,
-            },
-            Family::FodPlatform => Version {
-                major: 3,
-                minor: 18,
-                patch: 0,
-            },
-            Family::DreamlandWhispy => Version {
-                major: 3,
-                minor: 18,
-                patch: 0,
-            },
-            Family::StadiumTransformation => Version {
-                major: 3,
-                minor: 18,
-                patch: 0,
-            },
+            Family::Pre | Family::Post => Version::new(0, 0, 0),
+            Family::FrameStart => Version::new(2, 2, 0),
+            Family::Item | Family::FrameEnd => Version::new(3, 0, 0),
+            Family::FodPlatform | Family::DreamlandWhispy | Family::StadiumTransformation =>
+                Version::new(3, 18, 0),
         }
     }
 

@@ -21,13 +21,11 @@ fn had(all: &[u16], f: Family, v: Version) -> usize
     requires { map column_of all.now ≡ table }
     ensures { (result ≡ length (widths_of f v)) × (result ≤ 32) }
 {
-    let mut n = f.count();
-    while 0 < n {
-        let c = column_of(all[f.first() + (n - 1)]);
+    for n in (0..f.count()).rev() {
+        let c = column_of(all[f.first() + n]);
         if v.gte(c.major, c.minor) {
-            return n;
+            return n + 1;
         }
-        n -= 1;
     }
     0
 }
@@ -46,12 +44,10 @@ pub fn widths(f: Family, v: Version) -> Listing
     let count = had(&all, f, v);
     let mut widths = [0u8; 32];
     let mut bytes: usize = 0;
-    let mut i: usize = 0;
-    while i < count {
+    for i in 0..count {
         let c = column_of(all[f.first() + i]);
         widths[i] = c.width;
         bytes += wire::wide(c.width);
-        i += 1;
     }
     Listing {
         count,
@@ -66,14 +62,12 @@ fn alike(widths: &[u8], k: usize, n: usize) -> usize
     ensures { (0 < result) × (k + result ≤ n) × (part widths.now k result ≡ replicate result (get_or widths.now k 0)) }
 {
     let w = widths[k];
-    let mut m: usize = 1;
-    while k + m < n {
+    for m in 1..n - k {
         if widths[k + m] != w {
             return m;
         }
-        m += 1;
     }
-    m
+    n - k
 }
 
 // The same columns as runs of one width: how many runs, the width of each, and how many columns it has.
@@ -96,6 +90,7 @@ pub fn runs_of(f: Family, v: Version) -> Runs
     let mut lengths = [0u8; 32];
     let mut runs: usize = 0;
     let mut k: usize = 0;
+    // Each turn passes a whole run, and finds how long it is: no range counts so.
     while k < n {
         let m = alike(&all, k, n);
         widths[runs] = all[k];

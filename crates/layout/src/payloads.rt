@@ -1,10 +1,10 @@
 // The payload table of a version.
-ghost use Rattle.std.specs.Prelude.{◌≡◌, false, cond, ◌<◌, length, get_or};
+ghost use Rattle.std.specs.Prelude.{◌≡◌, false, cond, ◌<◌, map};
 ghost use Rattle.wire.specs.Wire.{Room, Wrote};
 ghost use Rattle.format.specs.Version.{has_codes};
 ghost use Rattle.format.specs.File.{entries_bytes, table_bytes};
-ghost use Rattle.layout.specs.Payloads.{event_of, head_size, record_size, end_size, order, listed, payload_size, entries_of};
-ghost use Rattle.layout.specs.Inner.{paired, Tabled};
+ghost use Rattle.layout.specs.Payloads.{event_of, head_size, record_size, end_size, listed, payload_size, entries_of};
+ghost use Rattle.layout.specs.Inner.{entry_as, Tabled};
 
 use super::columns::Family;
 use super::listing::size;
@@ -32,14 +32,13 @@ fn head_size(f: Family) -> usize
     ensures { result ≡ head_size f }
 {
     match f {
-        Family::Pre => 6,
-        Family::Post => 6,
-        Family::FrameStart => 4,
-        Family::Item => 4,
-        Family::FrameEnd => 4,
-        Family::FodPlatform => 4,
-        Family::DreamlandWhispy => 4,
-        Family::StadiumTransformation => 4,
+        Family::Pre | Family::Post => 6,
+        Family::FrameStart
+        | Family::Item
+        | Family::FrameEnd
+        | Family::FodPlatform
+        | Family::DreamlandWhispy
+        | Family::StadiumTransformation => 4,
     }
 }
 
@@ -79,21 +78,15 @@ const ORDER: [Event; 12] = [
     Event::StadiumTransformation,
 ];
 
-fn ordered(i: usize) -> Event
-    requires { i < 12 }
-    ensures { result ≡ get_or order i Event.Payloads }
-{
-    ORDER[i]
-}
-
 // Codes are listed where they are given, from 3.3 on.
 fn with_codes(v: Version, given: bool) -> bool
     ensures { result ≡ cond given (has_codes v) false }
 {
-    if given { v.has_codes() } else { false }
+    given && v.has_codes()
 }
 
 // Whether a version's table lists an event, with codes given or not.
+#[tactic(auto, unfolding(crate::specs::Payloads::listed))]
 pub fn is_listed(e: Event, v: Version, given: bool) -> bool
     ensures { result ≡ listed v given e }
 {
@@ -106,8 +99,7 @@ pub fn is_listed(e: Event, v: Version, given: bool) -> bool
         Event::FrameStart => Family::FrameStart.exists(v),
         Event::Item => Family::Item.exists(v),
         Event::FrameEnd => Family::FrameEnd.exists(v),
-        Event::GeckoCodes => with_codes(v, given),
-        Event::MessageSplitter => with_codes(v, given),
+        Event::GeckoCodes | Event::MessageSplitter => with_codes(v, given),
         Event::FodPlatform => Family::FodPlatform.exists(v),
         Event::DreamlandWhispy => Family::DreamlandWhispy.exists(v),
         Event::StadiumTransformation => Family::StadiumTransformation.exists(v),
@@ -115,6 +107,7 @@ pub fn is_listed(e: Event, v: Version, given: bool) -> bool
 }
 
 // The size of an event's payload, with a start block of `block` bytes and codes of `actual` bytes.
+#[tactic(auto, unfolding(crate::specs::Payloads::payload_size))]
 pub fn payload_size(e: Event, v: Version, block: usize, actual: u32) -> usize
     requires { block < 65536 }
     ensures { (result ≡ payload_size v block actual e) × (result < 65536) }
@@ -136,11 +129,17 @@ pub fn payload_size(e: Event, v: Version, block: usize, actual: u32) -> usize
     }
 }
 
-// The payload table: events' codes and their payloads' sizes.
+// An entry of the payload table: an event's code and its payload's size.
+#[derive(Clone, Copy)]
+pub struct PayloadSize {
+    pub code: u8,
+    pub size: u16,
+}
+
+// The payload table: the first `len` entries.
 #[derive(Clone, Copy)]
 pub struct PayloadSizes {
-    pub codes: [u8; 12],
-    pub sizes: [u16; 12],
+    pub entries: [PayloadSize; 12],
     pub len: usize,
 }
 
@@ -148,37 +147,29 @@ pub fn payload_sizes(v: Version, block: usize, given: bool, actual: u32) -> Payl
     requires { block < 65536 }
     ensures { Tabled (entries_of v block given actual) result }
 {
-    let mut codes = [0u8; 12];
-    let mut sizes = [0u16; 12];
-    let mut n: usize = 0;
-    let mut i: usize = 0;
-    while i < 12 {
-        let e = ordered(i);
-        i += 1;
+    let mut entries = [PayloadSize { code: 0, size: 0 }; 12];
+    let mut len: usize = 0;
+    for e in ORDER {
         if is_listed(e, v, given) {
-            codes[n] = e.code();
-            sizes[n] = payload_size(e, v, block, actual) as u16;
-            n += 1;
+            entries[len] = PayloadSize {
+                code: e.code(),
+                size: payload_size(e, v, block, actual) as u16,
+            };
+            len += 1;
         }
     }
-    PayloadSizes {
-        codes,
-        sizes,
-        len: n,
-    }
+    PayloadSizes { entries, len }
 }
 
 // The entries of a table, three bytes each.
-fn put_entries(out: &mut [u8], at: usize, codes: &[u8], sizes: &[u16]) -> usize
-    requires { (length codes.now ≡ length sizes.now) × Room out.old at (entries_bytes (paired codes.now sizes.now)) }
-    ensures { Wrote out.old out.new at result (entries_bytes (paired codes.now sizes.now)) }
+fn put_entries(out: &mut [u8], at: usize, entries: &[PayloadSize]) -> usize
+    requires { Room out.old at (entries_bytes (map entry_as entries.now)) }
+    ensures { Wrote out.old out.new at result (entries_bytes (map entry_as entries.now)) }
 {
     let mut p = at;
-    let mut i: usize = 0;
-    while i < codes.len() {
-        p = wire::put_u8(out, p, codes[i]);
-        p = wire::put_u16(out, p, sizes[i] as u32);
-        i += 1;
+    for e in entries {
+        p = wire::put_u8(out, p, e.code);
+        p = wire::put_u16(out, p, e.size as u32);
     }
     p
 }
@@ -196,10 +187,7 @@ pub fn put_table(
     ensures { Wrote out.old out.new at result (table_bytes (entries_of v block given actual)) }
 {
     let t = payload_sizes(v, block, given, actual);
-    let n = t.len;
-    let codes = t.codes;
-    let sizes = t.sizes;
     let mut p = wire::put_u8(out, at, Event::Payloads.code());
-    p = wire::put_u8(out, p, (3 * n + 1) as u8);
-    put_entries(out, p, &codes[..n], &sizes[..n])
+    p = wire::put_u8(out, p, (3 * t.len + 1) as u8);
+    put_entries(out, p, &t.entries[..t.len])
 }

@@ -6,10 +6,11 @@ use mathlib.Core.List.{List, [], ◌∷◌, ◌++◌, append_assoc, append-nil}
 use Prim.Native.Nat.{ℕ, zero, suc, ◌+◌, ◌-◌, ◌*◌, ◌/◌, ◌≤◌, ◌<◌}
 use native.Mathlib.Numerals.{add-one, sub-one}
 use native.Mathlib.Omega.{arith}
-use native.Mathlib.Decide.{dec_lt, ℕ_discrete}
+use native.Mathlib.Decide.{dec_lt}
 use borrow.Author.Tests.{eqb-true, eq-eqb, ne_eqb, lt-ltb, le-ltb, lt-leb}
 use lib.Dec.{eqb, leb}
-use lib.ListN.{length, get_or}
+use lib.Pointwise.{pointwise}
+use lib.ListN.{length, get_or, take, drop}
 use lib.Seq.{drop-cons}
 use Rattle.wire.specs.Wire.{part, keep}
 use Rattle.format.specs.Refusal.{one_of}
@@ -19,7 +20,7 @@ use Rattle.map.specs.Map.{same, has}
 use Rattle.map.specs.Rows.{cell_of, key_of, stored, Grown, Sprout, plain_at, nested_at, value_at, entries_at, below, map_at}
 use Rattle.map.specs.Keys.{key_stored, key_at, after_at, doubled_in, doubled_below, doubled_at}
 use Rattle.map.specs.Inner.{Run, keys_from, Repeats}
-use Rattle.map.proofs.Laws.{both, length_part}
+use Rattle.map.proofs.Laws.{both}
 use Rattle.map.proofs.Turns.{unroll, ran_out, value_plain, value_nested, below_is}
 
 -- ---- texts
@@ -30,16 +31,6 @@ part_cons b x n h = rw (drop-cons b x 0 h, add-one)
 pub part_none : (b : List ℕ) (x : ℕ) → part b x 0 ≡ []
 unfolding part
 part_none b x = refl
-
-pub same_other : (xs ys : List ℕ) → (length xs ≡ length ys → ⊥) → same xs ys ≡ false
-unfolding same
-same_other [] [] n = absurd (n refl)
-same_other [] (y ∷ ys) n = refl
-same_other (x ∷ xs) [] n = refl
-same_other (x ∷ xs) (y ∷ ys) n = elim (ℕ_discrete x y) [
-  | yes e ↦ rw (eq-eqb x y e) (same_other xs ys (λ q. n (ap suc q)))
-  | no m ↦ rw (ne_eqb x y m)
-]
 
 pub same_refl : (xs : List ℕ) → same xs xs ≡ true
 unfolding same
@@ -53,30 +44,20 @@ same_is [] (y ∷ ys) e = no_way e
 same_is (x ∷ xs) [] e = no_way e
 same_is (x ∷ xs) (y ∷ ys) e = let (a, b) = both (eqb x y) (same xs ys) e in ap₂ (λ (i : ℕ) (l : List ℕ). i ∷ l) (eqb-true x y a) (same_is xs ys b)
 
-pub parts_start : (b : List ℕ) (x m y n : ℕ) → m ≡ n → same (part b x m) (part b y m) ≡ same (part b x m) (part b y n)
-parts_start b x m y n e = ap (λ k. same (part b x m) (part b y k)) e
+-- texts that are compared pair by pair
+same_pairs : (xs ys : List ℕ) → pointwise eqb xs ys ≡ same xs ys
+unfolding same
+same_pairs [] [] = refl
+same_pairs [] (y ∷ ys) = refl
+same_pairs (x ∷ xs) [] = refl
+same_pairs (x ∷ xs) (y ∷ ys) = ap (λ b. eqb x y && b) (same_pairs xs ys)
 
-pub lengths_other : (b : List ℕ) (x m y n : ℕ) → x + m ≤ length b → y + n ≤ length b → (m ≡ n → ⊥) → false ≡ same (part b x m) (part b y n)
-lengths_other b x m y n h k z = sym (same_other (part b x m) (part b y n) (λ q. z (sym (length_part b x m h) ∙ q ∙ length_part b y n k)))
-
--- n bytes at x and at y
-module _ (b : List ℕ) (n x y : ℕ) where
-  pub parts_done : n ≤ 0 → true ≡ same (part b x n) (part b y n)
-  unfolding same
-  parts_done h = let e : n ≡ 0 = omega arith in rw (e, part_none b x, part_none b y)
-
-  module _ (h : 0 < n) (hx : x + n ≤ length b) (hy : y + n ≤ length b) where
-    parts_step : same (part b x n) (part b y n) ≡ (eqb (get_or b x 0) (get_or b y 0) && same (part b (x + 1) (n - 1)) (part b (y + 1) (n - 1)))
-    unfolding same
-    parts_step =
-        let one : n ≡ suc (n - 1) = omega arith in
-        ap (λ k. same (part b x k) (part b y k)) one ∙ ap₂ same (part_cons b x (n - 1) (omega arith)) (part_cons b y (n - 1) (omega arith))
-
-    pub parts_other : (get_or b x 0 ≡ get_or b y 0 → ⊥) → false ≡ same (part b x n) (part b y n)
-    parts_other z = sym (parts_step ∙ ap (λ k. k && same (part b (x + 1) (n - 1)) (part b (y + 1) (n - 1))) (ne_eqb (get_or b x 0) (get_or b y 0) z))
-
-    pub parts_more : get_or b x 0 ≡ get_or b y 0 → same (part b (x + 1) (n - 1)) (part b (y + 1) (n - 1)) ≡ same (part b x n) (part b y n)
-    parts_more e = sym (parts_step ∙ ap (λ k. k && same (part b (x + 1) (n - 1)) (part b (y + 1) (n - 1))) (eq-eqb (get_or b x 0) (get_or b y 0) e))
+pub parts_same : (b : List ℕ) (x m y n : ℕ) → pointwise eqb (take (x + m - x) (drop x b)) (take (y + n - y) (drop y b)) ≡ same (part b x m) (part b y n)
+unfolding part
+parts_same b x m y n =
+    let first : x + m - x ≡ m = omega arith in
+    let second : y + n - y ≡ n = omega arith in
+    rw (first, second) (same_pairs (take m (drop x b)) (take n (drop y b)))
 
 -- ---- a key and its row
 module _ (rows texts : List ℕ) (k : ℕ) {x n : ℕ} (ex : x ≡ cell_of rows k 1) (en : n ≡ cell_of rows k 2) where

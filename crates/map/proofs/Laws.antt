@@ -10,12 +10,20 @@ use borrow.Author.Tests.{eq-eqb, ne_eqb, eqb-true, leb-true, lt-ltb, le-ltb, ltb
 use lib.Dec.{eqb, leb, ltb}
 use lib.ListN.{length, take, drop, length-drop}
 use lib.Seq.{length-take-le}
+use Rattle.std.specs.Prelude.{Option, Some, None}
 use Rattle.wire.specs.Wire.{be, part}
+use Rattle.format.specs.Refused.{number_of}
+use Rattle.format.specs.declared.refusal.Refusal.{Refusal}
 use Rattle.map.specs.Map.{text_bytes, value_bytes}
 use Rattle.format.proofs.Versions.{no_way}
 use Rattle.format.proofs.Refusals.{passed}
+use Rattle.map.proofs.Numbers.{some_number}
 use Rattle.map.specs.Rows.{cell_of, there, key_of, plain_of, worse, stored, text_wrong, value_wrong, row_wrong}
-use Rattle.map.specs.Inner.{inside}
+use Rattle.map.specs.Inner.{number_if, inside}
+
+-- one less is left
+pub one_less : (n k : ℕ) → n - (k + 1) ≡ n - k - 1
+one_less n k = omega arith
 
 pub both : (a b : Bool) → (a && b) ≡ true → (a ≡ true) × (b ≡ true)
 both true b e = (refl, e)
@@ -40,6 +48,23 @@ module _ (a b : ℕ) where
       pub worse_high : a ≤ b → a ≡ worse a b
       unfolding worse
       worse_high h = rw (ne_eqb a 0 n, ne_eqb b 0 m, le-ltb b a h)
+
+-- the same of refusals
+module _ {a : Option Refusal} (b : Option Refusal) where
+  pub lower_first : a ≡ None → number_if b ≡ worse (number_if a) (number_if b)
+  lower_first e = worse_first (number_if a) (number_if b) (ap number_if e)
+
+module _ {a b : Option Refusal} where
+  module _ {x : Refusal} (e : a ≡ Some x) where
+    pub lower_second : b ≡ None → number_of x ≡ worse (number_if a) (number_if b)
+    lower_second f = rw e (worse_second (number_of x) (number_if b) (some_number x) (ap number_if f))
+
+    module _ {y : Refusal} (f : b ≡ Some y) {m n : ℕ} (em : m ≡ number_of y) (en : n ≡ number_of x) where
+      pub lower_low : m < n → number_of y ≡ worse (number_if a) (number_if b)
+      lower_low h = rw (e, f) (worse_low (number_of x) (number_of y) (some_number x) (some_number y) (omega (arith, h, em, en)))
+
+      pub lower_high : n ≤ m → number_of x ≡ worse (number_if a) (number_if b)
+      lower_high h = rw (e, f) (worse_high (number_of x) (number_of y) (some_number x) (some_number y) (omega (arith, h, em, en)))
 
 pub worse_none : (a b : ℕ) → worse a b ≡ 0 → (a ≡ 0) × (b ≡ 0)
 worse_none a b e = elim (ℕ_discrete a 0) [

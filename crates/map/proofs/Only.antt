@@ -4,8 +4,7 @@ use Prim.Native.Nat.{ℕ}
 use native.Mathlib.Decide.{ℕ_discrete}
 use mathlib.Core.Path.{◌≡◌, sym, ◌∙◌}
 use mathlib.Core.List.{List}
-use Rattle.map.specs.Write.{WriteMapOutcome}
-use Rattle.map.specs.declared.write.Written.{Written}
+use Rattle.map.specs.Write.{Written, WriteMapOutcome}
 
 pub only : {before rows texts a b : List ℕ} {count : ℕ} {q r : Written} → WriteMapOutcome before rows texts count a q → WriteMapOutcome before rows texts count b r → (q.refusal ≡ r.refusal) × (q.len ≡ r.len) × (a ≡ b)
 only {q = q} {r = r} x y =

@@ -10,6 +10,7 @@ use native.Mathlib.Decide.{dec_lt}
 use borrow.Author.Tests.{eq-eqb, ne_eqb, lt-ltb, le-ltb, ltb-false}
 use lib.Dec.{eqb, ltb}
 use lib.ListN.{length}
+use Rattle.std.specs.Prelude.{Ok}
 use Rattle.wire.specs.Wire.{Room, Wrote}
 use Rattle.format.specs.Refusal.{refuse, lowest, one_of}
 use Rattle.format.proofs.Refusals.{skip, here, none, passed}
@@ -17,7 +18,7 @@ use Rattle.format.proofs.Tests.{other, same, same_of, one_here, one_skip, one_no
 use Rattle.map.specs.Map.{body_of}
 use Rattle.map.specs.Keys.{doubled_at}
 use Rattle.map.specs.Inner.{cap_of}
-use Rattle.map.specs.Write.{lent_map, refusal_of, WriteMapOutcome}
+use Rattle.map.specs.Write.{lent_map, refusal_of, map_written, WriteMapOutcome}
 use Rattle.map.proofs.Judging.{cap_over, cap_under}
 
 cap_long : (L bytes : ℕ) → bytes ≡ cap_of L → 65535 < bytes → 65535 < L
@@ -121,16 +122,13 @@ refused_as_lem rows texts count room a =
     all_well rows texts count room refl (λ q. absurd (omega (arith, q, a.ok))) (λ q. absurd (omega (arith, q, a.ok))) refl a.once a.ok refl a.whole refl
     (omega (arith, cap_under (length (body_of (lent_map rows texts count).map)) a.small, a.small)) (omega (arith, cap_under (length (body_of (lent_map rows texts count).map)) a.small, a.fits))
 
--- the two outcomes
-pub outcome_no : {before rows texts : List ℕ} {count n : ℕ} → n ≡ refusal_of rows texts count (length before) → (n ≡ 0 → ⊥) → WriteMapOutcome before rows texts count before (record { refusal = n; len = 0 })
-outcome_no e h = record { refusal_is = e; accepted = λ z. absurd (h z); untouched = λ z. (refl, refl) }
+-- the outcome
+pub outcome_yes : {before rows texts after : List ℕ} {count at : ℕ} → 0 ≡ refusal_of rows texts count (length before) → Wrote before after 0 at (body_of (lent_map rows texts count).map)
+    → WriteMapOutcome before rows texts count after (map_written (Ok at))
+outcome_yes e w = record { refusal_is = e; accepted = λ q. (w.next_is ∙ zero-add _, w.after_is); untouched = λ n. absurd (n refl) }
 
-pub outcome_yes : {before rows texts after : List ℕ} {count n at : ℕ} → n ≡ refusal_of rows texts count (length before) → n ≡ 0 → Wrote before after 0 at (body_of (lent_map rows texts count).map)
-    → WriteMapOutcome before rows texts count after (record { refusal = 0; len = at })
-outcome_yes e z w = record { refusal_is = sym z ∙ e; accepted = λ q. (w.next_is ∙ zero-add _, w.after_is); untouched = λ n. absurd (n refl) }
-
-pub put_ok : (before rows texts : List ℕ) (count : ℕ) {n : ℕ} → n ≡ refusal_of rows texts count (length before) → n ≡ 0
+pub put_ok : (before rows texts : List ℕ) (count : ℕ) → 0 ≡ refusal_of rows texts count (length before)
     → ((lent_map rows texts count).refusal ≡ 0) × Room before 0 (body_of (lent_map rows texts count).map)
-put_ok before rows texts count e z =
-    let a = accepted_of_lem rows texts count (length before) (sym e ∙ z) in
+put_ok before rows texts count e =
+    let a = accepted_of_lem rows texts count (length before) (sym e) in
     (a.ok, record { fits = omega (arith, a.fits) })

@@ -1,9 +1,16 @@
 -- What the writer's functions promise each other.
 -- Assumes nothing.
-use Rattle.std.specs.Prelude.{ℕ, zero, suc, ◌+◌, ◌*◌, ◌<◌, Bool, cond, ◌&&◌, List, [], ◌++◌, ◌≡◌, eqb, ltb, length}
+use Rattle.std.specs.Prelude.{ℕ, Option, Some, None, zero, suc, ◌+◌, ◌*◌, ◌<◌, Bool, cond, ◌&&◌, List, [], ◌++◌, ◌≡◌, eqb, ltb, length}
+use Rattle.format.specs.Refused.{number_of}
+use Rattle.format.specs.declared.refusal.Refusal.{Refusal}
 use Rattle.map.specs.Map.{has}
 use Rattle.map.specs.Rows.{row_wrong, there, key_of}
 use Rattle.map.specs.Keys.{key_stored, key_at, after_at}
+
+-- a refusal's number; 0 is none
+abbrev pub number_if : Option Refusal → ℕ
+number_if None = 0
+number_if (Some r) = number_of r
 
 -- a row is there, and nothing is wrong with it by itself
 unfoldable pub inside : List ℕ → List ℕ → ℕ → Bool

@@ -1,12 +1,13 @@
 -- What the public writer answers, and what it leaves in the output.
 -- Assumes nothing.
-use Rattle.std.specs.Prelude.{ℕ, ◌*◌, not, List, [], ◌∷◌, ◌≡◌, eqb, ltb, length}
+use Rattle.std.specs.Prelude.{ℕ, Result, Ok, Err, ◌*◌, not, List, [], ◌∷◌, ◌≡◌, eqb, ltb, length}
 use Rattle.wire.specs.Wire.{splice}
 use Rattle.format.specs.Refusal.{refuse, lowest, one_of}
+use Rattle.format.specs.Refused.{number_of}
+use Rattle.format.specs.declared.refusal.Refusal.{Refusal}
 use Rattle.map.specs.Map.{body_of}
 use Rattle.map.specs.Rows.{Grown, map_at}
 use Rattle.map.specs.Keys.{doubled_at}
-use Rattle.map.specs.declared.write.Written.{Written}
 
 -- the map of `count` entries that all rows stand for, at most 8 deep
 abbrev pub lent_map : List ℕ → List ℕ → ℕ → Grown
@@ -23,6 +24,15 @@ refusal_of rows texts count room =
     ∷ refuse 2 (ltb 65535 (length (body_of g.map)))
     ∷ refuse 12 (ltb room (length (body_of g.map)))
     ∷ [])
+
+-- an answer's numbers: a refusal, or 0 and the body's length
+pub record Written : Type 0 where
+  pub refusal : ℕ
+  pub len : ℕ
+
+abbrev pub map_written : Result ℕ Refusal → Written
+map_written (Ok n) = record { refusal = 0; len = n }
+map_written (Err r) = record { refusal = number_of r; len = 0 }
 
 -- the body over the output's front, or the output as it was
 pub record WriteMapOutcome (before rows texts : List ℕ) (count : ℕ) (after : List ℕ) (r : Written) : Type 0 where

@@ -2,15 +2,15 @@
 ghost use Rattle.std.specs.Prelude.{◌≡◌, ℕ, ◌+◌, ◌*◌, ◌<◌, ◌≤◌, ◌^◌, List, length};
 ghost use Rattle.map.specs.Map.{value_bytes, body_of};
 ghost use Rattle.map.specs.Rows.{worse, text_wrong, value_wrong, row_wrong, plain_of, map_at};
-ghost use Rattle.map.specs.Inner.{cap_of};
+ghost use Rattle.map.specs.Inner.{cap_of, number_if};
 
 use crate::put::cell;
-use format::refusal;
+use format::refusal::Refusal;
 
 // The lowest refusal of all rows, the row after them, and the body's length, told up to 65,536.
 #[derive(Clone, Copy)]
 pub struct Judged {
-    pub refusal: u8,
+    pub refusal: Option<Refusal>,
     pub next: usize,
     pub bytes: usize,
 }
@@ -24,55 +24,56 @@ fn capped(n: usize) -> usize
     n
 }
 
-// The lower of two refusals; 0 is none.
-fn lower(a: u8, b: u8) -> u8
-    ensures { result ≡ worse a b }
+// The one of two refusals with the lower number.
+fn lower(a: Option<Refusal>, b: Option<Refusal>) -> Option<Refusal>
+    ensures { number_if result ≡ worse (number_if a) (number_if b) }
 {
-    if a == 0 {
+    let Some(x) = a else {
         return b;
-    }
-    if b == 0 {
+    };
+    let Some(y) = b else {
         return a;
-    }
-    if b < a {
+    };
+    if y.number() < x.number() {
         return b;
     }
     a
 }
 
 // What is wrong with a text.
-fn text_wrong(texts: &[u8], at: usize, len: usize) -> u8
+fn text_wrong(texts: &[u8], at: usize, len: usize) -> Option<Refusal>
     requires { (at < 2 ^ 32) × (len < 2 ^ 32) }
-    ensures { result ≡ text_wrong texts.now at len }
+    ensures { number_if result ≡ text_wrong texts.now at len }
 {
     if 255 < len {
-        return refusal::LONG_TEXT;
+        return Some(Refusal::LongText);
     }
     if texts.len() < at + len {
-        return refusal::BAD_BODY;
+        return Some(Refusal::BadBody);
     }
-    0
+    None
 }
 
 // What is wrong with the value of row k by itself.
-fn value_wrong(rows: &[u32], texts: &[u8], k: usize) -> u8
+fn value_wrong(rows: &[u32], texts: &[u8], k: usize) -> Option<Refusal>
     requires { 5 * k + 4 < length rows.now }
-    ensures { result ≡ value_wrong rows.now texts.now k }
+    ensures { number_if result ≡ value_wrong rows.now texts.now k }
 {
+    // A kind is a number, as C callers store it in a cell.
     let kind = cell(rows, k, 0);
     if kind == 0 {
         return text_wrong(texts, cell(rows, k, 3), cell(rows, k, 4));
     }
     if kind <= 2 {
-        return 0;
+        return None;
     }
-    refusal::BAD_BODY
+    Some(Refusal::BadBody)
 }
 
 // What is wrong with row k by itself.
-fn row_wrong(rows: &[u32], texts: &[u8], k: usize) -> u8
+fn row_wrong(rows: &[u32], texts: &[u8], k: usize) -> Option<Refusal>
     requires { 5 * k + 4 < length rows.now }
-    ensures { result ≡ row_wrong rows.now texts.now k }
+    ensures { number_if result ≡ row_wrong rows.now texts.now k }
 {
     lower(
         text_wrong(texts, cell(rows, k, 1), cell(rows, k, 2)),
@@ -93,28 +94,26 @@ fn plain_size(rows: &[u32], k: usize) -> usize
 
 // The map of `count` entries whose rows begin at i, and which may nest `depth` deep.
 pub fn judge_map(rows: &[u32], texts: &[u8], i: usize, count: usize, depth: usize) -> Judged
-    ensures { (result.refusal ≡ (map_at rows.now texts.now depth i count).refusal)
+    ensures { (number_if result.refusal ≡ (map_at rows.now texts.now depth i count).refusal)
         × (result.next ≡ (map_at rows.now texts.now depth i count).next)
-        × (result.refusal ≡ 0 → result.bytes ≡ cap_of (length (body_of (map_at rows.now texts.now depth i count).map))) × (result.bytes ≤ 65536) }
+        × (number_if result.refusal ≡ 0 → result.bytes ≡ cap_of (length (body_of (map_at rows.now texts.now depth i count).map))) × (result.bytes ≤ 65536) }
 {
     let mut k = i;
-    let mut left = count;
     let mut bytes: usize = 0;
-    let mut wrong: u8 = 0;
-    while 0 < left {
+    let mut wrong = None;
+    for _ in 0..count {
         if rows.len() / 5 <= k {
             return Judged {
-                refusal: lower(wrong, refusal::BAD_BODY),
+                refusal: lower(wrong, Some(Refusal::BadBody)),
                 next: k,
                 bytes: 0,
             };
         }
-        left -= 1;
         wrong = lower(wrong, row_wrong(rows, texts, k));
         let key = bytes + 2 + cell(rows, k, 2);
         if cell(rows, k, 0) == 2 {
             if depth == 0 {
-                wrong = lower(wrong, refusal::TOO_DEEP);
+                wrong = lower(wrong, Some(Refusal::TooDeep));
                 k += 1;
             } else {
                 let inner = judge_map(rows, texts, k + 1, cell(rows, k, 3), depth - 1);

@@ -13,21 +13,7 @@ pub fn same_text(texts: &[u8], x: usize, m: usize, y: usize, n: usize) -> bool
     requires { (x + m ≤ length texts.now) × (y + n ≤ length texts.now) }
     ensures { result ≡ same (part texts.now x m) (part texts.now y n) }
 {
-    if m != n {
-        return false;
-    }
-    let mut a = x;
-    let mut b = y;
-    let mut left = m;
-    while 0 < left {
-        if texts[a] != texts[b] {
-            return false;
-        }
-        a += 1;
-        b += 1;
-        left -= 1;
-    }
-    true
+    texts[x..x + m] == texts[y..y + n]
 }
 
 // Whether the store has the key of row k.
@@ -61,12 +47,10 @@ pub fn skip_rows(rows: &[u32], i: usize, count: usize, depth: usize) -> usize
     ensures { (result ≡ (map_at rows.now [] depth i count).next) × (i ≤ result) × (0 < count → 5 * i + 4 < length rows.now → i < result) }
 {
     let mut k = i;
-    let mut left = count;
-    while 0 < left {
+    for _ in 0..count {
         if rows.len() / 5 <= k {
             return k;
         }
-        left -= 1;
         if cell(rows, k, 0) != 2 {
             k += 1;
         } else if depth == 0 {
@@ -85,6 +69,7 @@ fn repeats(rows: &[u32], texts: &[u8], i: usize, k: usize, depth: usize) -> bool
 {
     if key_stored(rows, texts, k) {
         let mut q = i;
+        // No `for`: an entry ends where its rows say.
         while q < k {
             if same_key(rows, texts, q, k) {
                 return true;
@@ -100,12 +85,10 @@ pub fn doubled(rows: &[u32], texts: &[u8], i: usize, count: usize, depth: usize)
     ensures { result ≡ doubled_at rows.now texts.now depth i count }
 {
     let mut k = i;
-    let mut left = count;
-    while 0 < left {
+    for _ in 0..count {
         if rows.len() / 5 <= k {
             return false;
         }
-        left -= 1;
         if repeats(rows, texts, i, k, depth) {
             return true;
         }

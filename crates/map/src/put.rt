@@ -69,9 +69,7 @@ pub fn put_map(
 {
     let mut p = at;
     let mut k = i;
-    let mut left = count;
-    while 0 < left {
-        left -= 1;
+    for _ in 0..count {
         p = put_key(out, p, rows, texts, k);
         if cell(rows, k, 0) == 2 {
             p = wire::put_u8(out, p, 0x7b);

@@ -7,14 +7,18 @@ use native.Mathlib.Omega.{arith}
 use borrow.Author.Tests.{eq-eqb, ne_eqb, lt-ltb, le-ltb}
 use lib.Dec.{ltb}
 use lib.ListN.{length}
+use Rattle.std.specs.Prelude.{Result, Err}
+use Rattle.format.specs.Refused.{number_of}
+use Rattle.format.specs.declared.refusal.Refusal.{Refusal}
 use Rattle.wire.specs.Wire.{splice, Room, Wrote}
 use Rattle.format.specs.Refusal.{refuse, lowest}
 use Rattle.format.proofs.Refusals.{skip, here, none}
 use Rattle.map_reader.specs.Read.{Seen, stopped, other_wrong, map_read_at}
 use Rattle.map_reader.specs.Back.{count_of, entry_count, map_rows}
-use Rattle.map_reader.specs.Inner.{Whole}
+use Rattle.map_reader.specs.Inner.{read_numbers, Whole}
 use Rattle.map_reader.specs.Answer.{whole_map, read_refusal, read_place, ReadMapOutcome}
 use Rattle.map_reader.specs.declared.read.Read.{Read}
+use Rattle.map_reader.specs.declared.read.WrongAt.{WrongAt}
 use Rattle.map_reader.proofs.Sizes.{length_rows}
 
 -- what is read of a whole body
@@ -49,8 +53,9 @@ module _ (b : List ℕ) {r s : ℕ} (er : r ≡ (map_read_at b 8 0).refusal) (es
         let w = whole_more b (sym er ∙ z) (λ q. n (es ∙ q)) in
         (ex ∙ ap (other_wrong b) es ∙ sym (ap (λ (g : Seen). g.refusal) w), (λ q. absurd (omega (arith, q, some))), λ q. es ∙ sym (ap (λ (g : Seen). g.stop) w))
 
-pub told_as : {b : List ℕ} {w : Read} {x s k : ℕ} → w ≡ record { refusal = x; stop = s; entries = k } → (x ≡ (whole_map b).refusal) × (x ≡ 0 → Whole b k) × ((x ≡ 0 → ⊥) → s ≡ (whole_map b).stop)
-    → (w.refusal ≡ (whole_map b).refusal) × (w.refusal ≡ 0 → Whole b w.entries) × ((w.refusal ≡ 0 → ⊥) → w.stop ≡ (whole_map b).stop)
+pub told_as : {b : List ℕ} {a : Result Read WrongAt} {r : Refusal} {s : ℕ} → a ≡ Err (record { refusal = r; place = s })
+    → (number_of r ≡ (whole_map b).refusal) × (number_of r ≡ 0 → Whole b 0) × ((number_of r ≡ 0 → ⊥) → s ≡ (whole_map b).stop)
+    → ((read_numbers a).refusal ≡ (whole_map b).refusal) × ((read_numbers a).refusal ≡ 0 → Whole b (read_numbers a).entries) × (((read_numbers a).refusal ≡ 0 → ⊥) → (read_numbers a).stop ≡ (whole_map b).stop)
 told_as e t = rw e t
 
 -- the public call

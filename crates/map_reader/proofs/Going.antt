@@ -7,27 +7,42 @@ use Prim.Native.Nat.{ℕ, zero, suc, ◌+◌, ◌≤◌, ◌<◌}
 use native.Mathlib.Nat.{add-zero, zero-add}
 use native.Mathlib.Omega.{arith}
 use lib.ListN.{length, get_or}
+use Rattle.std.specs.Prelude.{Result, Ok, Err}
+use Rattle.std.specs.Result.{IsErrAnd}
+use Rattle.format.specs.Refused.{number_of}
+use Rattle.format.specs.declared.refusal.Refusal.{Refusal}
+use Rattle.map.proofs.Numbers.{some_number}
 use Rattle.map.specs.Map.{Value, text, number, map, Map, empty, entry}
 use Rattle.map_reader.specs.Read.{text_stop, text_of, Seen, SeenValue, refused, map_entries_in, inside, map_read_at, value_read_at}
 use Rattle.map_reader.specs.Back.{size_value, entry_count}
-use Rattle.map_reader.specs.Inner.{Run, keys_from, Ran, Repeated}
+use Rattle.map_reader.specs.Inner.{read_numbers, Run, keys_from, Ran, Repeated}
 use Rattle.map_reader.specs.declared.read.Read.{Read}
+use Rattle.map_reader.specs.declared.read.WrongAt.{WrongAt}
 use Rattle.map_reader.proofs.Steps.{entries_none, entries_cut, entries_twice, entries_bad, entries_more}
 use Rattle.map_reader.proofs.KeyRuns.{run_snoc}
 
--- a refusal, and what was read: of a value, and of a map
-pub told_no : {v : SeenValue} {r : Read} {n s : ℕ} {X : Type 0} → r ≡ record { refusal = n; stop = s; entries = 0 } → v ≡ refused n s → 0 < n → (r.refusal ≡ v.refusal) × (r.stop ≡ v.stop) × (r.refusal ≡ 0 → X)
-told_no w e h = rw w (sym (ap (λ w. w.refusal) e), sym (ap (λ w. w.stop) e), λ z. absurd (omega arith))
+-- what is wrong, passed on
+pub passed_on : {T : Type 0} {w : WrongAt} (a : Result T WrongAt) → IsErrAnd a (λ y. y ≡ w) → a ≡ Err w
+passed_on (Ok x) h = absurd h
+passed_on (Err y) h = ap Err h
 
-pub told_yes : {v : SeenValue} {x : Value} {r : Read} {s l : ℕ} (p e : ℕ) → r ≡ record { refusal = 0; stop = s; entries = e } → v ≡ record { value = x; stop = s; refusal = 0 } → p + e < s → s ≤ l → e ≡ size_value x
-    → (r.refusal ≡ v.refusal) × (r.stop ≡ v.stop) × (r.refusal ≡ 0 → (p + r.entries < r.stop) × (r.stop ≤ l) × (r.entries ≡ size_value v.value))
+-- a refusal, and what was read: of a value, and of a map
+pub told_no : {v : SeenValue} {a : Result Read WrongAt} {r : Refusal} {s : ℕ} {X : Type 0} → a ≡ Err (record { refusal = r; place = s }) → v ≡ refused (number_of r) s
+    → ((read_numbers a).refusal ≡ v.refusal) × ((read_numbers a).stop ≡ v.stop) × ((read_numbers a).refusal ≡ 0 → X)
+told_no {r = r} w e = rw w (sym (ap (λ w. w.refusal) e), sym (ap (λ w. w.stop) e), λ z. absurd (some_number r z))
+
+pub told_yes : {v : SeenValue} {x : Value} {a : Result Read WrongAt} {s l : ℕ} (p e : ℕ) → a ≡ Ok (record { stop = s; entries = e }) → v ≡ record { value = x; stop = s; refusal = 0 } → p + e < s → s ≤ l → e ≡ size_value x
+    → ((read_numbers a).refusal ≡ v.refusal) × ((read_numbers a).stop ≡ v.stop)
+    × ((read_numbers a).refusal ≡ 0 → (p + (read_numbers a).entries < (read_numbers a).stop) × ((read_numbers a).stop ≤ l) × ((read_numbers a).entries ≡ size_value v.value))
 told_yes p e w q a b c = rw w (sym (ap (λ w. w.refusal) q), sym (ap (λ w. w.stop) q), λ z. (a, b, c ∙ sym (ap (λ (w : SeenValue). size_value w.value) q)))
 
-pub told_map_no : {r : Read} {n s a b : ℕ} {X : Type 0} → r ≡ record { refusal = n; stop = s; entries = 0 } → (n ≡ a) × (s ≡ b) → (n ≡ 0 → ⊥) → (r.refusal ≡ a) × (r.stop ≡ b) × (r.refusal ≡ 0 → X)
-told_map_no w e h = rw w (e.0, e.1, λ z. absurd (h z))
+pub told_map_no : {a : Result Read WrongAt} {r : Refusal} {s x y : ℕ} {X : Type 0} → a ≡ Err (record { refusal = r; place = s }) → (number_of r ≡ x) × (s ≡ y)
+    → ((read_numbers a).refusal ≡ x) × ((read_numbers a).stop ≡ y) × ((read_numbers a).refusal ≡ 0 → X)
+told_map_no {r = r} w e = rw w (e.0, e.1, λ z. absurd (some_number r z))
 
-pub told_map_yes : {r : Read} {s a b size l : ℕ} (p e : ℕ) → r ≡ record { refusal = 0; stop = s; entries = e } → (0 ≡ a) × (s ≡ b) × (e ≡ size) → p + e ≤ s → s ≤ l
-    → (r.refusal ≡ a) × (r.stop ≡ b) × (r.refusal ≡ 0 → (p + r.entries ≤ r.stop) × (r.stop ≤ l) × (r.entries ≡ size))
+pub told_map_yes : {a : Result Read WrongAt} {s x y size l : ℕ} (p e : ℕ) → a ≡ Ok (record { stop = s; entries = e }) → (0 ≡ x) × (s ≡ y) × (e ≡ size) → p + e ≤ s → s ≤ l
+    → ((read_numbers a).refusal ≡ x) × ((read_numbers a).stop ≡ y)
+    × ((read_numbers a).refusal ≡ 0 → (p + (read_numbers a).entries ≤ (read_numbers a).stop) × ((read_numbers a).stop ≤ l) × ((read_numbers a).entries ≡ size))
 told_map_yes p e w q a b = rw w (q.0, q.1, λ z. (a, b, q.2))
 
 pub size_text : (t : List ℕ) → 0 ≡ size_value (text t)

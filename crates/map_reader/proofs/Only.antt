@@ -4,8 +4,7 @@ use Prim.Native.Nat.{ℕ}
 use native.Mathlib.Decide.{ℕ_discrete}
 use mathlib.Core.Path.{◌≡◌, sym, ◌∙◌}
 use mathlib.Core.List.{List}
-use Rattle.map_reader.specs.Answer.{ReadMapOutcome}
-use Rattle.map_reader.specs.declared.read.MapRead.{MapRead}
+use Rattle.map_reader.specs.Answer.{MapRead, ReadMapOutcome}
 
 pub only : {body before a b : List ℕ} {q r : MapRead} → ReadMapOutcome body before a q → ReadMapOutcome body before b r
     → (q.refusal ≡ r.refusal) × (q.place ≡ r.place) × (q.count ≡ r.count) × (q.entries ≡ r.entries) × (a ≡ b)

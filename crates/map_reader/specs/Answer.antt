@@ -1,11 +1,13 @@
 -- What the public reader answers, and what it leaves in the store of entries.
 -- Assumes nothing.
-use Rattle.std.specs.Prelude.{ℕ, ◌*◌, Bool, cond, List, [], ◌∷◌, ◌≡◌, eqb, ltb, length}
+use Rattle.std.specs.Prelude.{ℕ, Result, Ok, Err, ◌*◌, cond, List, [], ◌∷◌, ◌≡◌, eqb, ltb, length}
 use Rattle.wire.specs.Wire.{splice}
 use Rattle.format.specs.Refusal.{refuse, lowest}
+use Rattle.format.specs.Refused.{number_of}
 use Rattle.map_reader.specs.Read.{Seen, stopped, other_wrong, map_read_at}
 use Rattle.map_reader.specs.Back.{count_of, entry_count, map_rows}
-use Rattle.map_reader.specs.declared.read.MapRead.{MapRead}
+use Rattle.map_reader.specs.declared.read.Counts.{Counts}
+use Rattle.map_reader.specs.declared.read.WrongAt.{WrongAt}
 
 -- the map of a whole body, at most 8 deep: its entries end where the body does
 unfoldable pub whole_map : List ℕ → Seen
@@ -22,6 +24,17 @@ read_refusal b room =
 -- the wrong place, where there is one
 unfoldable pub read_place : List ℕ → ℕ
 read_place b = cond (eqb (whole_map b).refusal 0) 0 (whole_map b).stop
+
+-- an answer's numbers: a refusal and the wrong place in the body, 0 where none is named; or 0, how many entries the map has itself, and how many in all
+pub record MapRead : Type 0 where
+  pub refusal : ℕ
+  pub place : ℕ
+  pub count : ℕ
+  pub entries : ℕ
+
+abbrev pub map_read : Result Counts WrongAt → MapRead
+map_read (Ok c) = record { refusal = 0; place = 0; count = c.count; entries = c.entries }
+map_read (Err w) = record { refusal = number_of w.refusal; place = w.place; count = 0; entries = 0 }
 
 -- the entries over the store's front, or the store as it was
 pub record ReadMapOutcome (body before after : List ℕ) (r : MapRead) : Type 0 where

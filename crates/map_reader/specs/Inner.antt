@@ -1,9 +1,22 @@
 -- What the reader's functions promise each other.
 -- Assumes nothing.
-use Rattle.std.specs.Prelude.{ℕ, zero, suc, ◌<◌, ◌≤◌, Bool, List, [], ◌∷◌, ◌≡◌, length}
+use Rattle.std.specs.Prelude.{ℕ, Result, Ok, Err, zero, suc, ◌<◌, ◌≤◌, Bool, List, [], ◌∷◌, ◌≡◌, length}
+use Rattle.format.specs.Refused.{number_of}
 use Rattle.map.specs.Map.{has}
 use Rattle.map_reader.specs.Read.{text_stop, text_of, value_read_at, map_read_at}
 use Rattle.map_reader.specs.Back.{entry_count}
+use Rattle.map_reader.specs.declared.read.Read.{Read}
+use Rattle.map_reader.specs.declared.read.WrongAt.{WrongAt}
+
+-- an answer's numbers: a refusal and the wrong place; or 0, the place after what was read, and how many entries it has
+pub record ReadNumbers : Type 0 where
+  pub refusal : ℕ
+  pub stop : ℕ
+  pub entries : ℕ
+
+abbrev pub read_numbers : Result Read WrongAt → ReadNumbers
+read_numbers (Ok r) = record { refusal = 0; stop = r.stop; entries = r.entries }
+read_numbers (Err w) = record { refusal = number_of w.refusal; stop = w.place; entries = 0 }
 
 -- n entries of one map lead from place q to place p
 unfoldable pub Run : List ℕ → ℕ → ℕ → ℕ → ℕ → Type 0

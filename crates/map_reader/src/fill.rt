@@ -53,6 +53,7 @@ pub fn fill_map(b: &[u8], at: usize, depth: usize, rows: &mut [u32], i: usize) -
     let mut p = at;
     let mut k = i;
     let mut n: usize = 0;
+    // No `for`: how many entries there are shows only as they are read.
     while byte_at(b, p) == 0x55 {
         let q = text_stop(b, p);
         let key = p + 2;

@@ -1,8 +1,9 @@
 // What stands at a place of a body.
 ghost use Rattle.std.specs.Prelude.{◌≡◌, ◌+◌, ◌<◌, ◌≤◌, length, get_or};
+ghost use Rattle.format.specs.Refused.{number_of};
 ghost use Rattle.map_reader.specs.Read.{text_stop, says, says_more, other_wrong, no_text_refusal};
 
-use format::refusal;
+use format::refusal::Refusal;
 
 // The byte at a place; 0 behind the last.
 pub fn byte_at(b: &[u8], p: usize) -> u8
@@ -77,21 +78,21 @@ fn says_more(b: &[u8], p: usize) -> bool
 }
 
 // What is wrong where a text should be and no U stands.
-pub fn other_wrong(b: &[u8], p: usize) -> u8
-    ensures { (result ≡ other_wrong b.now p) × (0 < result) }
+pub fn other_wrong(b: &[u8], p: usize) -> Refusal
+    ensures { (number_of result ≡ other_wrong b.now p) × (0 < number_of result) }
 {
     if says_more(b, p) {
-        return refusal::LONG_TEXT;
+        return Refusal::LongText;
     }
-    refusal::BAD_BODY
+    Refusal::BadBody
 }
 
 // What is wrong where a text should be and is not.
-pub fn no_text(b: &[u8], p: usize) -> u8
-    ensures { (result ≡ no_text_refusal b.now p) × (0 < result) }
+pub fn no_text(b: &[u8], p: usize) -> Refusal
+    ensures { (number_of result ≡ no_text_refusal b.now p) × (0 < number_of result) }
 {
     if byte_at(b, p) == 0x55 {
-        return refusal::BAD_BODY;
+        return Refusal::BadBody;
     }
     other_wrong(b, p)
 }

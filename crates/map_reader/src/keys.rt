@@ -14,6 +14,7 @@ pub fn repeated(b: &[u8], at: usize, p: usize, depth: usize) -> bool
 {
     let n = wire::wide(byte_at(b, p + 1));
     let mut q = at;
+    // No `for`: an entry ends where its value does.
     while q < p {
         if same_text(b, q + 2, wire::wide(byte_at(b, q + 1)), p + 2, n) {
             return true;

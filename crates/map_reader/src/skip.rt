@@ -27,6 +27,7 @@ pub fn skip_map(b: &[u8], at: usize, depth: usize) -> usize
     ensures { (result ≡ (map_read_at b.now depth at).stop) × (at ≤ result) × (result ≤ length b.now) }
 {
     let mut p = at;
+    // No `for`: how many entries there are shows only as they are read.
     while byte_at(b, p) == 0x55 {
         p = skip_value(b, text_stop(b, p), depth);
     }

@@ -2,50 +2,68 @@
 -- Assumes nothing.
 use mathlib.Core.Path.{◌≡◌, refl, sym, ap, ◌∙◌}
 use mathlib.Core.List.{List, [], ◌∷◌, ◌++◌}
-use mathlib.Core.Bool.{Bool, true, false}
-use Prim.Native.Nat.{ℕ, zero, suc, ◌+◌, ◌-◌, ◌≤◌, ◌<◌}
+use mathlib.Core.Bool.{Bool, true, false, true≢false, cond}
+use Prim.Native.Nat.{ℕ, suc, ◌+◌, ◌-◌, ◌≤◌, ◌<◌}
 use native.Mathlib.Nat.{sub-zero, add-zero, zero-add}
-use native.Mathlib.Numerals.{add-one}
 use native.Mathlib.Omega.{arith}
-use borrow.Author.Tests.{eq-eqb, ne_eqb}
+use borrow.Author.Tests.{ltb-false}
 use lib.Dec.{eqb}
-use lib.ListN.{length, get_or, take, drop, replicate, drop_of_length-le, length-replicate, replicate-append-replicate}
-use lib.Seq.{drop-cons, drop-drop, drop_at, take-nil, get_or-take, get_or-drop}
+use lib.ListN.{length, length-drop, get_or, take, drop, replicate, drop_of_length-le, length-replicate, replicate-append-replicate}
+use lib.Seq.{take-length, drop-drop, drop_at, take-nil, get_or-take, get_or-drop}
+use Rattle.std.specs.Prelude.{Option, Some, None, ◌==◌, nat_lt, position}
+use Rattle.std.specs.List.{position_or_len}
+use Rattle.std.proofs.lemmas.List.Recursion.{is_position_or_len}
 use Rattle.wire.specs.Wire.{splice}
 use Rattle.wire.proofs.Laws.{splice_is}
 use Rattle.names.specs.Bytes.{filled}
 use Rattle.names.specs.Inner.{first_line, lines_from, line}
 
--- a line goes on behind every byte but its end
-pub line_ends : (s : List ℕ) (p : ℕ) → p < length s → get_or s p 0 ≡ 10 → first_line (drop p s) ≡ []
+-- a line ends at the first line end, or at the end of all
+line_first_end : (xs : List ℕ) → length (first_line xs) ≡ position_or_len (λ b. b == 10) xs
 unfolding first_line
-line_ends s p h e = rw (drop-cons s p 0 h, eq-eqb (get_or s p 0) 10 e)
+line_first_end = is_position_or_len (λ xs. length (first_line xs)) (λ b. b == 10) refl step
+  where
+    go : (x : ℕ) (xs : List ℕ) (c : Bool) → length (cond c [] (x ∷ first_line xs)) ≡ cond c 0 (1 + length (first_line xs))
+    go x xs true = refl
+    go x xs false = omega arith
 
-pub line_goes_on : (s : List ℕ) (p : ℕ) → p < length s → (get_or s p 0 ≡ 10 → ⊥) → first_line (drop p s) ≡ get_or s p 0 ∷ first_line (drop (p + 1) s)
+    step : (x : ℕ) (xs : List ℕ) → length (first_line (x ∷ xs)) ≡ cond (x == 10) 0 (1 + length (first_line xs))
+    step x xs = go x xs (eqb x 10)
+
+pub line_within : (xs : List ℕ) → length (first_line xs) ≤ length xs
 unfolding first_line
-line_goes_on s p h e = rw (drop-cons s p 0 h, ne_eqb (get_or s p 0) 10 e, add-one p)
+line_within [] = omega arith
+line_within (x ∷ xs) = go (eqb x 10) (line_within xs)
+  where
+    go : (c : Bool) → length (first_line xs) ≤ length xs → length (cond c [] (x ∷ first_line xs)) ≤ length (x ∷ xs)
+    go true h = omega arith
+    go false h = omega (arith, h)
 
-pub line_none : (s : List ℕ) (p : ℕ) → length s ≤ p → first_line (drop p s) ≡ []
-unfolding first_line
-line_none s p h = rw (drop_of_length-le s h)
+abbrev there : Option ℕ → Bool
+there None = false
+there (Some n) = true
 
--- a loop over the bytes of the line at `at`, now at p
-pub record InLine (s : List ℕ) (at p : ℕ) : Type 0 where
-  pub inside : p ≤ length s
-  pub left : p + length (first_line (drop p s)) ≡ at + length (first_line (drop at s))
+abbrev place : Option ℕ → ℕ
+place None = 0
+place (Some n) = n
 
-pub in_line_start : {s : List ℕ} {at : ℕ} → at ≤ length s → InLine s at at
-in_line_start h = record { inside = h; left = refl }
+pub end_found : (xs : List ℕ) {n : ℕ} → Some n ≡ position (λ b. b == 10) xs → n ≡ length (first_line xs)
+end_found xs {n} e = go (nat_lt (position_or_len (λ b. b == 10) xs) (length xs)) e
+  where
+    go : (c : Bool) → Some n ≡ cond c (Some (position_or_len (λ b. b == 10) xs)) None → n ≡ length (first_line xs)
+    go true q = ap place q ∙ sym (line_first_end xs)
+    go false q = absurd (true≢false (ap there q))
 
-module _ {s : List ℕ} {at p : ℕ} (l : InLine s at p) where
-  pub in_line_ends : p < length s → get_or s p 0 ≡ 10 → p ≡ at + length (first_line (drop at s))
-  in_line_ends h e = let k = ap length (line_ends s p h e) in omega (arith, k, l.left)
+pub end_missing : (xs : List ℕ) → None ≡ position (λ b. b == 10) xs → length xs ≡ length (first_line xs)
+end_missing xs e = go (nat_lt (position_or_len (λ b. b == 10) xs) (length xs)) refl e
+  where
+    go : (c : Bool) → nat_lt (position_or_len (λ b. b == 10) xs) (length xs) ≡ c → None ≡ cond c (Some (position_or_len (λ b. b == 10) xs)) None → length xs ≡ length (first_line xs)
+    go true p q = absurd (true≢false (sym (ap there q)))
+    go false p q = let f = line_first_end xs in let l = line_within xs in let k = ltb-false (position_or_len (λ b. b == 10) xs) (length xs) p in omega (arith, f, l, k)
 
-  pub in_line_more : p < length s → (get_or s p 0 ≡ 10 → ⊥) → InLine s at (p + 1)
-  in_line_more h e = let k = ap length (line_goes_on s p h e) in record { inside = omega arith; left = omega (arith, k, l.left) }
-
-  pub in_line_done : length s ≤ p → p ≡ at + length (first_line (drop at s))
-  in_line_done h = let k = ap length (line_none s p h) in omega (arith, k, l.left)
+-- all that stands from a place on
+pub rest_all : (s : List ℕ) (at : ℕ) → take (length s - at) (drop at s) ≡ drop at s
+rest_all s at = ap (λ (n : ℕ). take n (drop at s)) (sym (length-drop at s)) ∙ take-length (drop at s)
 
 -- behind a line: past its end, or at the end of all
 pub behind_line : (s : List ℕ) (at e : ℕ) → e ≡ at + length (first_line (drop at s)) → drop (e + 1) s ≡ lines_from 1 (drop at s)

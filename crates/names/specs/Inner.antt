@@ -1,6 +1,6 @@
 -- What the functions promise each other: texts in one list of bytes, each a line with a line end behind it.
 -- Assumes nothing.
-use Rattle.std.specs.Prelude.{ℕ, zero, suc, ◌+◌, cond, List, [], ◌∷◌, eqb, length, drop, get_or}
+use Rattle.std.specs.Prelude.{ℕ, zero, suc, ◌+◌, cond, List, [], ◌∷◌, eqb, ltb, length, drop, get_or}
 use Rattle.layout.specs.declared.columns.Family.{Family}
 use Rattle.names.specs.Bytes.{bytes, filled}
 use Rattle.names.specs.Names.{called_in, unsigned_cells}
@@ -18,6 +18,13 @@ lines_from (suc n) xs = lines_from n (drop (length (first_line xs) + 1) xs)
 
 unfoldable pub line : ℕ → List ℕ → List ℕ
 line n xs = first_line (lines_from n xs)
+
+-- what a list of lines says of a number: its line, or what is said of every number past the last
+unfoldable pub unknown : List ℕ
+unknown = bytes "for a reason that is not known here"
+
+unfoldable pub said : List ℕ → ℕ → ℕ → List ℕ
+said list last n = cond (ltb last n) unknown (line n list)
 
 -- a column by its line: its kind, a space, its name
 unfoldable pub called_as : List ℕ → Called

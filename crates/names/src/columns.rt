@@ -100,7 +100,7 @@ const STADIUM_TRANSFORMATION: [u8; 15] = *b"u event
 u type
 ";
 
-// A column's kind, and its name with zeros behind it.
+// A column's kind, a byte as C callers read it, and its name with zeros behind it.
 #[derive(Clone, Copy)]
 pub struct Called {
     pub kind: u8,

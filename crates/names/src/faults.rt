@@ -1,13 +1,10 @@
 // The words of faults.
-ghost use Rattle.std.specs.Prelude.{◌≡◌, length, ◌≤◌};
-ghost use Rattle.wire.specs.Wire.{Wrote};
-ghost use Rattle.names.specs.Bytes.{bytes};
-ghost use Rattle.names.specs.Names.{fault_words_of, fault_worded};
+ghost use Rattle.std.specs.Prelude.{◌≡◌};
+ghost use Rattle.names.specs.Names.{fault_worded};
 
-use crate::lines::put_line;
-use crate::refusals::Words;
+use crate::refusals::{Words, say};
 
-// By their numbers, a line for each, and what is said of every other number.
+// By their numbers, a line for each.
 const WORDS: [u8; 756] = *b"no fault
 an event out of order
 an event of another size than its version's
@@ -33,24 +30,8 @@ a player's Post without its Pre
 an event that no replay has
 ";
 
-const UNKNOWN: [u8; 36] = *b"for a reason that is not known here
-";
-
-// The words of a number, at the start of out.
-fn put_words(out: &mut [u8], number: u8) -> usize
-    requires { 128 ≤ length out.old }
-    ensures { Wrote out.old out.new 0 result (bytes (fault_words_of number)) }
-{
-    if 22 < number {
-        return put_line(out, &UNKNOWN, 0);
-    }
-    put_line(out, &WORDS, wire::wide(number))
-}
-
 pub fn fault_words(number: u8) -> Words
     ensures { result ≡ fault_worded number }
 {
-    let mut text = [0u8; 128];
-    put_words(&mut text, number);
-    Words { text }
+    say(&WORDS, 22, number)
 }

@@ -1,21 +1,24 @@
 // Texts in one list of bytes: each is a line, with a line end behind it.
-ghost use Rattle.std.specs.Prelude.{◌≡◌, ◌+◌, ◌≤◌, length, drop};
+ghost use Rattle.std.specs.Prelude.{◌≡◌, ◌==◌, ◌+◌, ◌≤◌, length, drop, position};
 ghost use Rattle.wire.specs.Wire.{Room, Wrote};
 ghost use Rattle.names.specs.Inner.{first_line, lines_from, line};
+
+// Where the first line end is.
+fn first_end(s: &[u8]) -> Option<usize>
+    ensures { result ≡ position (λ b. b == 10) s.now }
+{
+    s.iter().position(|b| *b == b'\n')
+}
 
 // Where the line ends in which a place is: at its line end, or at the end of all.
 pub fn line_end(s: &[u8], at: usize) -> usize
     requires { at ≤ length s.now }
     ensures { (result ≡ at + length (first_line (drop at s.now))) × (result ≤ length s.now) }
 {
-    let mut p = at;
-    while p < s.len() {
-        if s[p] == b'\n' {
-            return p;
-        }
-        p += 1;
+    match first_end(&s[at..]) {
+        Some(n) => at + n,
+        None => s.len(),
     }
-    p
 }
 
 // The place behind the line in which a place is.
@@ -35,10 +38,8 @@ pub fn line_start(s: &[u8], n: usize) -> usize
     ensures { (drop result s.now ≡ lines_from n s.now) × (result ≤ length s.now) }
 {
     let mut at = 0;
-    let mut i = 0;
-    while i < n {
+    for _ in 0..n {
         at = line_after(s, at);
-        i += 1;
     }
     at
 }

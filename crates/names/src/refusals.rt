@@ -1,12 +1,13 @@
 // The words of refusals.
 ghost use Rattle.std.specs.Prelude.{◌≡◌, length, ◌≤◌};
-ghost use Rattle.wire.specs.Wire.{Wrote};
-ghost use Rattle.names.specs.Bytes.{bytes};
-ghost use Rattle.names.specs.Names.{words_of, worded};
+ghost use Rattle.wire.specs.Wire.{Room, Wrote};
+ghost use Rattle.names.specs.Bytes.{filled};
+ghost use Rattle.names.specs.Inner.{said};
+ghost use Rattle.names.specs.Names.{worded};
 
 use crate::lines::put_line;
 
-// By their numbers, a line for each, and what is said of every other number.
+// By their numbers, a line for each.
 const WORDS: [u8; 1357] = *b"accepted
 the version is above 3.18.0
 a count exceeds its maximum
@@ -37,6 +38,7 @@ the index of another replay
 no frame has this id
 ";
 
+// What is said of every other number.
 const UNKNOWN: [u8; 36] = *b"for a reason that is not known here
 ";
 
@@ -47,21 +49,29 @@ pub struct Words {
     pub text: [u8; 128],
 }
 
-// The words of a number, at the start of out.
-fn put_words(out: &mut [u8], number: u8) -> usize
-    requires { 128 ≤ length out.old }
-    ensures { Wrote out.old out.new 0 result (bytes (words_of number)) }
+// What a list says of a number, at the start of out.
+fn put_words(out: &mut [u8], list: &[u8], last: u8, number: u8) -> usize
+    requires { Room out.old 0 (said list.now last number) }
+    ensures { Wrote out.old out.new 0 result (said list.now last number) }
 {
-    if 27 < number {
+    if last < number {
         return put_line(out, &UNKNOWN, 0);
     }
-    put_line(out, &WORDS, wire::wide(number))
+    put_line(out, list, wire::wide(number))
+}
+
+// The line of a number in a list whose last line is that of `last`, or what is said of every other number.
+pub fn say(list: &[u8], last: u8, number: u8) -> Words
+    requires { length (said list.now last number) ≤ 128 }
+    ensures { result ≡ record { text = filled 128 (said list.now last number) } }
+{
+    let mut text = [0u8; 128];
+    put_words(&mut text, list, last, number);
+    Words { text }
 }
 
 pub fn refusal_words(number: u8) -> Words
     ensures { result ≡ worded number }
 {
-    let mut text = [0u8; 128];
-    put_words(&mut text, number);
-    Words { text }
+    say(&WORDS, 27, number)
 }

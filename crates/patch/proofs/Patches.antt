@@ -6,10 +6,10 @@ use mathlib.Core.List.{List, [], ◌∷◌, ◌++◌}
 use Prim.Native.Nat.{ℕ, zero, suc, ◌+◌, ◌-◌, ◌≤◌, ◌<◌}
 use native.Mathlib.Omega.{arith}
 use native.Mathlib.Numerals.{add-one}
-use lib.ListN.{length, take, drop, get_or, replicate, drop_of_length-le}
-use lib.Seq.{drop-cons}
+use lib.ListN.{length, take, drop, get_or, replicate, drop_of_length-le, length-drop, length-replicate}
+use lib.Seq.{drop-cons, drop-drop, length-take-le}
 use Rattle.wire.specs.Wire.{be, splice, keep, Wrote}
-use Rattle.wire.proofs.Laws.{length_splice}
+use Rattle.wire.proofs.Laws.{length_splice, splice_is}
 use Rattle.wire.proofs.Writers.{wrote_then}
 use Rattle.patch.specs.Patch.{Patch, patch, patched}
 use Rattle.patch.specs.Field.{text, zero_filled}
@@ -86,6 +86,20 @@ pub take_replicate : (m n a : ℕ) → m ≤ n → take m (replicate n a) ≡ re
 take_replicate zero n a h = refl
 take_replicate (suc m) zero a h = absurd (omega arith)
 take_replicate (suc m) (suc n) a h = ap (λ l. a ∷ l) (take_replicate m n a (omega arith))
+
+-- n bytes of the block, lent and filled with zeros
+pub wrote_zeros : (block zeros : List ℕ) (at n : ℕ) → at + n ≤ length block → zeros ≡ replicate (length (take (at + n - at) (drop at block))) 0
+    → Wrote block (take at block ++ (zeros ++ drop (at + n - at) (drop at block))) at (at + n) (replicate n 0)
+wrote_zeros block zeros at n h e =
+    let count : at + n - at ≡ n = omega arith in
+    let rest : length (drop at block) ≡ length block - at = length-drop at block in
+    let long : length (take n (drop at block)) ≡ n = length-take-le n (drop at block) (omega (arith, rest)) in
+    let same : zeros ≡ replicate n 0 = rw (count, long) at e in
+    let whole = splice_is block at (replicate n 0) (rw length-replicate h) in
+    record {
+      next_is = rw length-replicate refl;
+      after_is = rw (count, same, drop-drop n at block) (sym (rw length-replicate at whole));
+    }
 
 pub wrote_filled : {a b c : List ℕ} {at mid next : ℕ} (t : Text) (width : ℕ)
     → Wrote a b at mid (take t.len t.bytes) → Wrote b c mid next (replicate (width - t.len) 0) → Wrote a c at next (zero_filled width t)

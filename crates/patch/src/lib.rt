@@ -13,32 +13,24 @@ use game::start::Text;
 pub fn flag_of(mark: u8) -> u32
     ensures { result ≡ flag_of mark }
 {
-    if mark == 0 {
-        return 0;
-    }
-    1
+    (mark != 0) as u32
 }
 
 // The width of a byte that is written, or not.
 pub fn width_if(on: bool) -> usize
     ensures { (result ≡ cond on 1 0) × (result ≤ 1) }
 {
-    if on {
-        return 1;
-    }
-    0
+    on as usize
 }
 
-// A table of numbers from `at` on: the widths' low bytes of the values at the offsets.
+// A table of numbers from `at` on: the widths' low bytes of the values at the offsets. Three lists, as `Fit` and `number_patches` name them.
 pub fn put_numbers(block: &mut [u8], at: usize, offsets: &[usize], widths: &[usize], values: &[u32])
     requires { Fit (length block.old) at offsets.now widths.now values.now }
     ensures { Patched block.old block.new (number_patches at offsets.now widths.now values.now) }
 {
-    let mut j = 0;
-    while j < offsets.len() {
+    for j in 0..offsets.len() {
         let p = at + offsets[j];
         wire::put_be(block, p, widths[j], values[j]);
-        j += 1;
     }
 }
 
@@ -55,8 +47,8 @@ pub fn put_zeros(block: &mut [u8], at: usize, n: usize) -> usize
     requires { (n ≤ 51) × (at + n ≤ length block.old) }
     ensures { Wrote block.old block.new at result (replicate n 0) }
 {
-    let zeros = [0u8; 51];
-    put_first(block, at, &zeros, n)
+    block[at..at + n].fill(0);
+    at + n
 }
 
 // A text, and zeros up to the field's width.

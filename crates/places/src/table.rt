@@ -1,8 +1,9 @@
 // Where the parts of eight frames go that have the same players: what stands before the rows by offsets of each, and what stands behind them.
 ghost use Rattle.std.specs.Prelude.{◌≡◌, true, ◌+◌, ◌≤◌, ◌<◌, length};
-ghost use Rattle.game.specs.Stores.{offsets};
+ghost use Rattle.game.specs.Held.{offsets_in};
 ghost use Rattle.places.specs.Inner.{Seated, RangesWhere, RangesAll, Bare, BareAll, Short, Laid, rows_long, middle_long, seats_on, begins_at};
 
+use game::stores::Offsets;
 use players::presence::is_present;
 use players::slots::Slots;
 
@@ -24,11 +25,8 @@ pub fn seats_in(s: Slots, presence: &[u8], i: usize) -> usize
     ensures { (result ≡ seats_on s presence.now i s.count) × (result ≤ 8) }
 {
     let mut n: usize = 0;
-    let mut k: usize = 0;
-    while k < s.count {
-        let here = is_present(presence, s.at[k], s.len[k], i);
-        k += 1;
-        if here {
+    for k in 0..s.count {
+        if is_present(presence, s.at[k], s.len[k], i) {
             n += 1;
         }
     }
@@ -47,6 +45,8 @@ fn rows_len(size: usize, offsets: &[u32], frames: usize, i: usize) -> usize
     0
 }
 
+// The offsets of the four families come one by one, as the C interface lends them, and `offsets` of the definitions joins them.
+
 // No frame from a on and before b has a row of a family with offsets.
 fn is_bare(size: usize, offsets: &[u32], frames: usize, a: usize, b: usize) -> bool
     requires { RangesWhere size offsets.now frames × (a ≤ b) × (b ≤ frames) }
@@ -61,53 +61,35 @@ fn is_bare(size: usize, offsets: &[u32], frames: usize, a: usize, b: usize) -> b
 }
 
 // Nor of any such family.
-pub fn is_calm(
-    z: Spans,
-    item_offsets: &[u32],
-    fod_offsets: &[u32],
-    whispy_offsets: &[u32],
-    stadium_offsets: &[u32],
-    frames: usize,
-    a: usize,
-    b: usize,
-) -> bool
-    requires { RangesAll z (offsets item_offsets.now fod_offsets.now whispy_offsets.now stadium_offsets.now) frames × (a ≤ b) × (b ≤ frames) }
-    ensures { result ≡ true → BareAll z (offsets item_offsets.now fod_offsets.now whispy_offsets.now stadium_offsets.now) a b }
+pub fn is_calm(z: Spans, offsets: &Offsets<'_>, frames: usize, a: usize, b: usize) -> bool
+    requires { RangesAll z (offsets_in offsets.now) frames × (a ≤ b) × (b ≤ frames) }
+    ensures { result ≡ true → BareAll z (offsets_in offsets.now) a b }
 {
-    if is_bare(z.item, item_offsets, frames, a, b) {} else {
+    if !is_bare(z.item, offsets.items, frames, a, b) {
         return false;
     }
-    if is_bare(z.fod, fod_offsets, frames, a, b) {} else {
+    if !is_bare(z.fod, offsets.fods, frames, a, b) {
         return false;
     }
-    if is_bare(z.whispy, whispy_offsets, frames, a, b) {} else {
+    if !is_bare(z.whispy, offsets.whispys, frames, a, b) {
         return false;
     }
-    is_bare(z.stadium, stadium_offsets, frames, a, b)
+    is_bare(z.stadium, offsets.stadiums, frames, a, b)
 }
 
 // What the rows by offsets of frame i take. Where it is known to have none nothing is looked up.
-fn middle_len(
-    calm: bool,
-    z: Spans,
-    item_offsets: &[u32],
-    fod_offsets: &[u32],
-    whispy_offsets: &[u32],
-    stadium_offsets: &[u32],
-    frames: usize,
-    i: usize,
-) -> usize
-    requires { let os = offsets item_offsets.now fod_offsets.now whispy_offsets.now stadium_offsets.now in
+fn middle_len(calm: bool, z: Spans, offsets: &Offsets<'_>, frames: usize, i: usize) -> usize
+    requires { let os = offsets_in offsets.now in
         RangesAll z os frames × Short z × (i < frames) × (calm ≡ true → middle_long z os i ≡ 0) }
-    ensures { result ≡ middle_long z (offsets item_offsets.now fod_offsets.now whispy_offsets.now stadium_offsets.now) i }
+    ensures { result ≡ middle_long z (offsets_in offsets.now) i }
 {
     if calm {
         return 0;
     }
-    let fod = rows_len(z.fod, fod_offsets, frames, i);
-    let whispy = rows_len(z.whispy, whispy_offsets, frames, i);
-    let stadium = rows_len(z.stadium, stadium_offsets, frames, i);
-    let item = rows_len(z.item, item_offsets, frames, i);
+    let fod = rows_len(z.fod, offsets.fods, frames, i);
+    let whispy = rows_len(z.whispy, offsets.whispys, frames, i);
+    let stadium = rows_len(z.stadium, offsets.stadiums, frames, i);
+    let item = rows_len(z.item, offsets.items, frames, i);
     fod + (whispy + (stadium + item))
 }
 
@@ -118,14 +100,11 @@ pub fn lay_out(
     at: usize,
     z: Spans,
     calm: bool,
-    item_offsets: &[u32],
-    fod_offsets: &[u32],
-    whispy_offsets: &[u32],
-    stadium_offsets: &[u32],
+    offsets: &Offsets<'_>,
     frames: usize,
     i: usize,
 ) -> usize
-    requires { let os = offsets item_offsets.now fod_offsets.now whispy_offsets.now stadium_offsets.now in
+    requires { let os = offsets_in offsets.now in
         (length places.old ≡ 16)
         × RangesAll z os frames
         × Short z
@@ -133,27 +112,16 @@ pub fn lay_out(
         × (frames ≤ 1048576)
         × (begins_at z os i at 8 ≤ 18446744073709551615)
         × (calm ≡ true → BareAll z os i (i + 8)) }
-    ensures { Laid z (offsets item_offsets.now fod_offsets.now whispy_offsets.now stadium_offsets.now)
+    ensures { Laid z (offsets_in offsets.now)
         i at places.new result }
 {
     let mut p = at;
-    let mut t: usize = 0;
-    while t < 8 {
-        let rows = middle_len(
-            calm,
-            z,
-            item_offsets,
-            fod_offsets,
-            whispy_offsets,
-            stadium_offsets,
-            frames,
-            i + t,
-        );
+    for t in 0..8 {
+        let rows = middle_len(calm, z, offsets, frames, i + t);
         places[t] = p;
         p += z.ahead + rows;
         places[8 + t] = p;
         p += z.behind;
-        t += 1;
     }
     p
 }

@@ -5,18 +5,6 @@ ghost use Rattle.places.specs.Inner.{Seated, Steady, Together, Whole};
 use players::presence::is_present;
 use players::slots::Slots;
 
-fn is_same(a: bool, b: bool) -> bool
-    ensures { result ≡ true → a ≡ b }
-{
-    if a {
-        return b;
-    }
-    if b {
-        return false;
-    }
-    true
-}
-
 // The eight frames from i on have a slot's player, or none of them has.
 fn is_steady(presence: &[u8], at: usize, len: u32, i: usize) -> bool
     requires { i ≤ 1048576 }
@@ -26,11 +14,8 @@ fn is_steady(presence: &[u8], at: usize, len: u32, i: usize) -> bool
         return true;
     }
     let here = is_present(presence, at, len, i);
-    let mut t: usize = 0;
-    while t < 8 {
-        let there = is_present(presence, at, len, i + t);
-        t += 1;
-        if is_same(there, here) {} else {
+    for t in 0..8 {
+        if is_present(presence, at, len, i + t) != here {
             return false;
         }
     }
@@ -42,15 +27,7 @@ pub fn is_whole(s: Slots) -> bool
     requires { Seated s }
     ensures { result ≡ true → Whole s }
 {
-    let mut k: usize = 0;
-    while k < s.count {
-        let len = s.len[k];
-        k += 1;
-        if 0 < len {
-            return false;
-        }
-    }
-    true
+    s.len[..s.count].iter().all(|len| *len == 0)
 }
 
 // The eight frames from i on come before frame b, and have the same players. Where every player is in every frame no bit is looked at.
@@ -64,11 +41,8 @@ pub fn is_team(whole: bool, s: Slots, presence: &[u8], i: usize, b: usize) -> bo
     if whole {
         return true;
     }
-    let mut k: usize = 0;
-    while k < s.count {
-        let steady = is_steady(presence, s.at[k], s.len[k], i);
-        k += 1;
-        if steady {} else {
+    for k in 0..s.count {
+        if !is_steady(presence, s.at[k], s.len[k], i) {
             return false;
         }
     }

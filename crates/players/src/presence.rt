@@ -50,10 +50,8 @@ pub fn present_in(presence: &[u8], at: usize, len: u32, frames: usize) -> usize
     }
     let full = frames / 8;
     let mut n: usize = 0;
-    let mut i: usize = 0;
-    while i < full {
+    for i in 0..full {
         n += ones_of(presence[at + i]);
-        i += 1;
     }
     let rest = (frames % 8) as u8;
     if rest == 0 {
@@ -69,12 +67,10 @@ pub fn players_present(f: Frames, s: Slots, presence: &[u8]) -> usize
 {
     let frames = f.counts.frames;
     let mut n: usize = 0;
-    let mut k = 0;
-    while k < s.count {
+    for k in 0..s.count {
         let at = s.at[k];
         let len = s.len[k];
         n += present_in(presence, at, len, frames);
-        k += 1;
     }
     n
 }

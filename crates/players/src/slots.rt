@@ -13,10 +13,8 @@ pub fn slots_before(f: Frames, k: usize) -> usize
     ensures { result ≡ slots_before f k }
 {
     let mut n: usize = 0;
-    let mut j: usize = 0;
-    while j < k {
+    for j in 0..k {
         let p = f.port(j);
-        j += 1;
         n += 1;
         if p.has_follower() {
             n += 1;
@@ -49,7 +47,7 @@ pub fn blocks(f: Frames, family: Family) -> usize
 }
 
 // The slots' ports and follower numbers, where the presence bytes of each begin, and how many they are. With narrow counts it is small enough to be
-// passed by value in a few moves.
+// passed by value in a few moves. An array for each number, and how many slots there are: `slot_in`, and `Seated` of the crate places, speak of them by name.
 #[derive(Clone, Copy)]
 pub struct Slots {
     pub count: usize,
@@ -112,12 +110,10 @@ pub fn slots_of(f: Frames) -> Slots
     let columns = f.ports_in();
     let mut s = Slots::none();
     let mut at: usize = 0;
-    let mut k = 0;
-    while k < columns {
+    for k in 0..columns {
         let p = f.port(k);
         s = s.with_port(p, at);
         at += p.bytes();
-        k += 1;
     }
     s
 }

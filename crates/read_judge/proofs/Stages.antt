@@ -236,8 +236,7 @@ module _ (f spans : List ℕ) (v : Version) (first stop len : ℕ) (ready : Read
           let c = start_covers in
           absurd (no_wrong (sym (codes_wrong_lem w f spans stop (drop stop f) ready.others at c.long c.bytes_are c.spanned q) ∙ answer))
       go (some t) q =
-          let c = start_covers in
-          let h = codes_found w f spans stop (drop stop f) ready.others at c.long c.bytes_are c.spanned c.bytes t q in
+          let h = codes_found w f spans stop (drop stop f) ready.others at start_covers.long start_covers.bytes_are start_covers.spanned start_covers.bytes t q in
           let e = sym answer ∙ h.told.answer_is in
           let p : place ≡ stop - length (events_bytes t) = cc in
           let b : blocks ≡ length h.blocks = cc in

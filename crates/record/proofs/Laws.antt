@@ -1,6 +1,6 @@
 -- The laws of records: rows of cells as bytes and back, and the room that they take.
 -- Assumes nothing.
-use mathlib.Core.Path.{◌≡◌, refl, sym, ap, ap₂, ◌∙◌}
+use mathlib.Core.Path.{◌≡◌, refl, sym, ap, ◌∙◌}
 use mathlib.Core.Bool.{Bool, true, false, cond}
 use mathlib.Core.Logic.{◌⊎◌, inl, inr}
 use mathlib.Core.List.{List, [], ◌∷◌, ◌++◌, append_assoc, append-nil}
@@ -133,20 +133,19 @@ module _ (h : Head) (ws cells : List ℕ) (stride first : ℕ) where
   pub put_start : {out : List ℕ} {at : ℕ} → Behind out at (event_bytes (record_of h ws cells stride first)) out (head_bytes h ++ cells_bytes (take (length ws) ws) cells stride first)
   put_start = rw (take-length, ← record_parts h ws cells stride first) behind_start
 
-  pub put_step : {out now after : List ℕ} {at next : ℕ} (k i q w : ℕ) → Turn ws cells stride first k
-      → i ≡ first + k * stride → q ≡ at + (length (head_bytes h) + sum (take k ws)) → w ≡ get_or ws (k - 1) 0
+  pub put_step : {out now after : List ℕ} {at next : ℕ} (k q w : ℕ) → Turn ws cells stride first k
+      → q ≡ at + (length (head_bytes h) + sum (take k ws)) → w ≡ get_or ws (k - 1) 0
       → Behind out at (event_bytes (record_of h ws cells stride first)) now (head_bytes h ++ cells_bytes (take k ws) cells stride first)
-      → Wrote now after (q - 4) next (be 4 (get_or cells (i - stride) 0))
+      → Wrote now after (q - 4) next (be 4 (get_or cells (first + (k - 1) * stride) 0))
       → Behind out at (event_bytes (record_of h ws cells stride first)) after (head_bytes h ++ cells_bytes (take (k - 1) ws) cells stride first)
-  put_step {at = at} k i q w t ei eq ew b x =
+  put_step {at = at} k q w t eq ew b x =
       let before = head_bytes h ++ cells_bytes (take (k - 1) ws) cells stride first in
-      let v = get_or cells (i - stride) 0 in
+      let v = get_or cells (first + (k - 1) * stride) 0 in
       let room = head_room h in
       let long : length before ≡ length (head_bytes h) + sum (take (k - 1) ws) = simp (length-append, length_cells) in
-      let value : get_or cells (first + (k - 1) * stride) 0 ≡ v = ap (λ (j : ℕ). get_or cells j 0) (sym t.index ∙ ap (λ (j : ℕ). j - stride) (sym ei)) in
       behind_step before (head_bytes h ++ cells_bytes (take k ws) cells stride first) w v
       (omega (arith, t.narrow)) (omega arith) (omega (arith, t.total))
-      (ap (λ (l : List ℕ). head_bytes h ++ l) (t.bytes ∙ ap₂ (λ (a c : ℕ). cells_bytes (take (k - 1) ws) cells stride first ++ be a c) (sym ew) value)
+      (ap (λ (l : List ℕ). head_bytes h ++ l) (t.bytes ∙ ap (λ (a : ℕ). cells_bytes (take (k - 1) ws) cells stride first ++ be a v) (sym ew))
       ∙ sym (append_assoc (head_bytes h) (cells_bytes (take (k - 1) ws) cells stride first) (be w v)))
       b x
 

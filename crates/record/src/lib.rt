@@ -67,12 +67,8 @@ pub fn put(
 {
     let end = at + (head_len(h) + bytes);
     let mut q = end;
-    let mut k = widths.len();
-    let mut i = first + k * stride;
-    while 0 < k {
-        k -= 1;
-        i -= stride;
-        wire::put_u32(out, q - 4, cells[i]);
+    for k in (0..widths.len()).rev() {
+        wire::put_u32(out, q - 4, cells[first + k * stride]);
         q -= wire::wide(widths[k]);
     }
     put_head(out, at, h);
@@ -84,10 +80,7 @@ pub fn get_four(s: &[u8], at: usize) -> u32
     requires { at + 4 ≤ length s.now }
     ensures { result ≡ number (part s.now at 4) }
 {
-    (s[at] as u32) * 16777216
-        + (s[at + 1] as u32) * 65536
-        + (s[at + 2] as u32) * 256
-        + s[at + 3] as u32
+    wire::get_be(s, at, 4)
 }
 
 // The number of the width bytes that end at `end`. Four bytes are read, with no test of the width, and those above it are dropped.
@@ -114,13 +107,11 @@ pub fn get(
 {
     let mut p = at;
     let mut i = first;
-    let mut k: usize = 0;
-    while k < widths.len() {
-        let w = wire::wide(widths[k]);
+    for width in widths {
+        let w = wire::wide(*width);
         p += w;
         cells[i] = get_low(payload, p, w);
         i += stride;
-        k += 1;
     }
     p
 }

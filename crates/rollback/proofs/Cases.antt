@@ -7,12 +7,13 @@ use native.Mathlib.Omega.{arith}
 use borrow.Author.Tests.{le-ltb}
 use lib.IntN.{ℤ, pos, negsuc, ◌+ℤ◌}
 use lib.ListN.{replicate, length-replicate}
+use Rattle.std.specs.Prelude.{Ok, Err}
 use Rattle.wire.specs.Wire.{tabulate}
 use Rattle.format.specs.FrameId.{place_of}
 use Rattle.format.specs.Refusal.{lowest}
-use Rattle.rollback.specs.Mask.{occurs, mask_of, needed, scratch_of, all_in_range, answer_of, mask_numbers, RollbackOutcome}
+use Rattle.rollback.specs.Mask.{occurs, mask_of, needed, scratch_of, all_in_range, answer_of, RollbackOutcome}
 use Rattle.rollback.specs.declared.frame.Rollbacks.TheVariants.{ExceptFirst, ExceptLast}
-use Rattle.rollback.specs.declared.frame.Masked.TheVariants.{Written, Refused}
+use Rattle.format.specs.declared.refusal.Refusal.TheVariants.{TooMany, ShortOutput}
 use Rattle.rollback.proofs.Places.{pos_place, neg_place}
 use Rattle.rollback.proofs.Outcomes.{too_many_lem, mask_short}
 
@@ -21,11 +22,11 @@ ids : List ℕ
 ids = 0xffff_ff85 ∷ 0xffff_ff86 ∷ 0xffff_ff86 ∷ 0xffff_ff87 ∷ []
 
 -- case 10, with the scratch, and with a byte beyond the mask and one beyond the scratch, which stay
-case_10_first : RollbackOutcome ids ExceptFirst (9 ∷ 9 ∷ 9 ∷ 9 ∷ 9 ∷ []) (9 ∷ 9 ∷ 9 ∷ 9 ∷ []) (Written 4) (0 ∷ 0 ∷ 1 ∷ 0 ∷ 9 ∷ []) (1 ∷ 1 ∷ 1 ∷ 9 ∷ [])
+case_10_first : RollbackOutcome ids ExceptFirst (9 ∷ 9 ∷ 9 ∷ 9 ∷ 9 ∷ []) (9 ∷ 9 ∷ 9 ∷ 9 ∷ []) (Ok 4) (0 ∷ 0 ∷ 1 ∷ 0 ∷ 9 ∷ []) (1 ∷ 1 ∷ 1 ∷ 9 ∷ [])
 unfolding ids tabulate place_of occurs mask_of needed scratch_of all_in_range lowest answer_of
 case_10_first = record { answer_is = refl; mask_is = refl; scratch_is = refl }
 
-case_10_last : RollbackOutcome ids ExceptLast (9 ∷ 9 ∷ 9 ∷ 9 ∷ 9 ∷ []) (9 ∷ 9 ∷ 9 ∷ 9 ∷ []) (Written 4) (0 ∷ 1 ∷ 0 ∷ 0 ∷ 9 ∷ []) (1 ∷ 1 ∷ 1 ∷ 9 ∷ [])
+case_10_last : RollbackOutcome ids ExceptLast (9 ∷ 9 ∷ 9 ∷ 9 ∷ 9 ∷ []) (9 ∷ 9 ∷ 9 ∷ 9 ∷ []) (Ok 4) (0 ∷ 1 ∷ 0 ∷ 0 ∷ 9 ∷ []) (1 ∷ 1 ∷ 1 ∷ 9 ∷ [])
 unfolding ids tabulate place_of occurs mask_of needed scratch_of all_in_range lowest answer_of
 case_10_last = record { answer_is = refl; mask_is = refl; scratch_is = refl }
 
@@ -68,15 +69,15 @@ table =
     ∷ row [] 0 0 0
     ∷ []
 
-order : map (λ (r : Row). (mask_numbers (answer_of r.cells r.m r.s)).number) table ≡ map (λ (r : Row). r.number) table
+order : map (λ (r : Row). (answer_of r.cells r.m r.s).number) table ≡ map (λ (r : Row). r.number) table
 unfolding row low first last high table place_of needed all_in_range lowest answer_of
 order = refl
 
 -- more than 1,048,576 frames are judged before the mask, and no fewer are too many
-too_many_frames : (n : ℕ) → 1048576 < n → RollbackOutcome (replicate n low) ExceptFirst [] [] (Refused 2) [] []
+too_many_frames : (n : ℕ) → 1048576 < n → RollbackOutcome (replicate n low) ExceptFirst [] [] (Err TooMany) [] []
 too_many_frames n h = too_many_lem (omega (arith, length-replicate n low))
 
-few_frames : (n : ℕ) → 0 < n → n ≤ 1048576 → RollbackOutcome (replicate n low) ExceptFirst [] [] (Refused 12) [] []
+few_frames : (n : ℕ) → 0 < n → n ≤ 1048576 → RollbackOutcome (replicate n low) ExceptFirst [] [] (Err ShortOutput) [] []
 few_frames n h l = mask_short (omega (arith, length-replicate n low)) (omega (arith, length-replicate n low))
 
 -- ---- the scratch

@@ -1,16 +1,17 @@
 -- Rollback masks: which frames repeat the id of an earlier or of a later one. A frame's id is an i32, whose bits stand in a cell.
 -- Assumes nothing.
-use Rattle.std.specs.Prelude.{ℕ, zero, suc, max, ◌≡◌, Bool, true, false, not, ◌&&◌, ◌||◌, List, [], ◌∷◌, ◌++◌, map, ltb, eqb, length, get_or, take, drop}
+use Rattle.std.specs.Prelude.{ℕ, zero, suc, max, ◌≡◌, Bool, true, false, not, ◌&&◌, ◌||◌, cond, List, [], ◌∷◌, ◌++◌, map, Result, Ok, Err, ltb, eqb, length, get_or, take, drop}
 use Rattle.std.specs.Int.{w32}
 use Rattle.std.proofs.Common.{to_z}
 use Rattle.format.specs.Mark.{mark_if}
 use Rattle.wire.specs.Wire.{tabulate}
 use Rattle.format.specs.FrameId.{in_range, place_of}
-use Rattle.format.specs.Refusal.{Refusal, refuse, lowest}
+use Rattle.format.specs.Refusal as tested
+use Rattle.format.specs.Refusal.{refuse, lowest}
+use Rattle.format.specs.Refused.{number_of}
+use Rattle.format.specs.declared.refusal.Refusal.{Refusal}
 use Rattle.rollback.specs.declared.frame.Rollbacks.{Rollbacks}
 use Rattle.rollback.specs.declared.frame.Rollbacks.TheVariants.{ExceptFirst, ExceptLast}
-use Rattle.rollback.specs.declared.frame.Masked.{Masked}
-use Rattle.rollback.specs.declared.frame.Masked.TheVariants.{Written, Refused}
 
 -- x stands among these
 unfoldable pub occurs : ℕ → List ℕ → Bool
@@ -55,7 +56,7 @@ all_in_range [] = true
 all_in_range (cell ∷ cells) = in_range (to_z w32 cell) && all_in_range cells
 
 -- the refusals of a mask of m bytes and a scratch of s, in the order in which they are judged: the scratch once all ids are in range
-abbrev pub mask_refusals : List ℕ → ℕ → ℕ → List Refusal
+abbrev pub mask_refusals : List ℕ → ℕ → ℕ → List tested.Refusal
 mask_refusals ids m s =
     refuse 2 (ltb 1048576 (length ids))
     ∷ refuse 12 (ltb m (length ids))
@@ -63,37 +64,35 @@ mask_refusals ids m s =
     ∷ refuse 12 (ltb s (needed ids))
     ∷ []
 
--- the answer with a refusal's number: 0 is none, and so many frames are written
-abbrev pub masked_of : ℕ → ℕ → Masked
-masked_of zero frames = Written frames
-masked_of (suc n) frames = Refused (suc n)
-
--- the answer to ids, with a mask of m bytes and a scratch of s
-unfoldable pub answer_of : List ℕ → ℕ → ℕ → Masked
-answer_of ids m s = masked_of (lowest (mask_refusals ids m s)) (length ids)
-
 -- an answer in numbers: 0 for a mask that is written, 1 for a refusal; the refusal's number; the frames that are written
 pub record MaskNumbers : Type 0 where
   pub kind : ℕ
   pub number : ℕ
   pub frames : ℕ
 
-abbrev pub mask_numbers : Masked → MaskNumbers
-mask_numbers (Written frames) = record { kind = 0; number = 0; frames = frames }
-mask_numbers (Refused number) = record { kind = 1; number = number; frames = 0 }
+abbrev pub mask_numbers : Result ℕ Refusal → MaskNumbers
+mask_numbers (Ok frames) = record { kind = 0; number = 0; frames = frames }
+mask_numbers (Err r) = record { kind = 1; number = number_of r; frames = 0 }
+
+-- the answer with a refusal's number: 0 is none, and so many frames are written
+abbrev pub masked_of : ℕ → ℕ → MaskNumbers
+masked_of zero frames = record { kind = 0; number = 0; frames = frames }
+masked_of (suc n) frames = record { kind = 1; number = suc n; frames = 0 }
+
+-- the answer to ids, with a mask of m bytes and a scratch of s
+unfoldable pub answer_of : List ℕ → ℕ → ℕ → MaskNumbers
+answer_of ids m s = masked_of (lowest (mask_refusals ids m s)) (length ids)
 
 -- ---- the lent bytes afterwards: those of an accepted call, with all bytes beyond as they were; all as they were on a refusal
 
-abbrev pub mask_after : Masked → Rollbacks → List ℕ → List ℕ → List ℕ
-mask_after (Written frames) keep ids old = mask_of keep ids ++ drop (length ids) old
-mask_after (Refused number) keep ids old = old
+abbrev pub mask_after : MaskNumbers → Rollbacks → List ℕ → List ℕ → List ℕ
+mask_after answer keep ids old = cond (eqb answer.kind 0) (mask_of keep ids ++ drop (length ids) old) old
 
-abbrev pub scratch_after : Masked → List ℕ → List ℕ → List ℕ
-scratch_after (Written frames) ids old = scratch_of ids (needed ids) ++ drop (needed ids) old
-scratch_after (Refused number) ids old = old
+abbrev pub scratch_after : MaskNumbers → List ℕ → List ℕ → List ℕ
+scratch_after answer ids old = cond (eqb answer.kind 0) (scratch_of ids (needed ids) ++ drop (needed ids) old) old
 
 -- what a call makes of ids, mask and scratch: its answer, and what stands in the mask and in the scratch afterwards
-pub record RollbackOutcome (ids : List ℕ) (keep : Rollbacks) (mask scratch : List ℕ) (answer : Masked) (mask-after scratch-after : List ℕ) : Type 0 where
-  pub answer_is : mask_numbers answer ≡ mask_numbers (answer_of ids (length mask) (length scratch))
-  pub mask_is : mask-after ≡ mask_after answer keep ids mask
-  pub scratch_is : scratch-after ≡ scratch_after answer ids scratch
+pub record RollbackOutcome (ids : List ℕ) (keep : Rollbacks) (mask scratch : List ℕ) (answer : Result ℕ Refusal) (mask-after scratch-after : List ℕ) : Type 0 where
+  pub answer_is : mask_numbers answer ≡ answer_of ids (length mask) (length scratch)
+  pub mask_is : mask-after ≡ mask_after (mask_numbers answer) keep ids mask
+  pub scratch_is : scratch-after ≡ scratch_after (mask_numbers answer) ids scratch

@@ -1,15 +1,8 @@
-// What a mask is asked for, and what the answer is.
+// What a mask is asked for.
 
 // Rollback-aware processing typically ignores all but the first or last rollback for a frame.
 #[derive(Clone, Copy)]
 pub enum Rollbacks {
     ExceptFirst,
     ExceptLast,
-}
-
-// The mask was written, with so many frames; or it was refused, with the number of the refusal.
-#[derive(Clone, Copy)]
-pub enum Masked {
-    Written(usize),
-    Refused(u8),
 }

@@ -1,13 +1,13 @@
 // Rollback masks: which frames repeat the id of another.
 #![tactic(auto)]
 
-ghost use Rattle.std.specs.Prelude.{◌≡◌, ◌≤◌, ◌<◌, length, replicate};
+ghost use Rattle.std.specs.Prelude.{◌≡◌, ◌≤◌, ◌<◌, length};
 ghost use Rattle.rollback.specs.Mask.{place, needed, mask_of, scratch_of, RollbackOutcome};
 ghost use Rattle.rollback.specs.Inner.{turn_of};
 
 use format::frame_id::FrameId;
-use format::refusal;
-use frame::{Masked, Rollbacks};
+use format::refusal::Refusal;
+use frame::Rollbacks;
 
 pub mod frame;
 
@@ -19,30 +19,19 @@ pub fn place_of(cell: u32) -> usize
 }
 
 // How many bytes of scratch the ids need: the largest id and 124, 0 for no frames. More than FrameId::COUNT where an id is out of range.
+// A number and no Option, as the clause with `needed` promises it.
 pub fn scratch_len(ids: &[u32]) -> usize
     ensures { result ≡ needed ids.now }
 {
     // 32 bits: four at a time are compared on every processor
     let mut most: u32 = 0;
-    let mut i: usize = 0;
-    while i < ids.len() {
-        let p = place_of(ids[i]) as u32;
+    for cell in ids {
+        let p = place_of(*cell) as u32;
         if most <= p {
             most = p + 1;
         }
-        i += 1;
     }
     most as usize
-}
-
-fn clear(bytes: &mut [u8])
-    ensures { bytes.new ≡ replicate (length bytes.old) 0 }
-{
-    let mut i: usize = 0;
-    while i < bytes.len() {
-        bytes[i] = 0;
-        i += 1;
-    }
 }
 
 // The frame whose turn comes after k others: from the first on, or from the last back.
@@ -62,39 +51,42 @@ fn sweep(ids: &[u32], keep: Rollbacks, mask: &mut [u8], marks: &mut [u8])
     ensures { (mask.new ≡ mask_of keep ids.now)
         × (marks.new ≡ scratch_of ids.now (needed ids.now)) }
 {
-    clear(marks);
+    marks.fill(0);
     let frames = ids.len();
-    let mut k: usize = 0;
-    while k < frames {
+    for k in 0..frames {
         let i = turn(keep, frames, k);
         let p = place_of(ids[i]);
         mask[i] = marks[p];
         marks[p] = 1;
-        k += 1;
     }
 }
 
 // Frame ids may appear several times due to rollbacks. The mask gets one byte a frame: 0 at an id's first (or last) occurrence, else 1.
-// The scratch gets 1 at each place whose id occurs, else 0. Bytes beyond both stay, and a refused call changes none.
-pub fn rollbacks(ids: &[u32], keep: Rollbacks, mask: &mut [u8], scratch: &mut [u8]) -> Masked
+// The scratch gets 1 at each place whose id occurs, else 0. Bytes beyond both stay, and a refused call changes none. The answer is the number of frames.
+pub fn rollbacks(
+    ids: &[u32],
+    keep: Rollbacks,
+    mask: &mut [u8],
+    scratch: &mut [u8],
+) -> Result<usize, Refusal>
     ensures { RollbackOutcome ids.now keep mask.old scratch.old
         result mask.new scratch.new }
 {
     let frames = ids.len();
     // a mask takes as many frames as there are ids
     if FrameId::COUNT < frames {
-        return Masked::Refused(refusal::TOO_MANY);
+        return Err(Refusal::TooMany);
     }
     if mask.len() < frames {
-        return Masked::Refused(refusal::SHORT_OUTPUT);
+        return Err(Refusal::ShortOutput);
     }
     let need = scratch_len(ids);
     if FrameId::COUNT < need {
-        return Masked::Refused(refusal::OUT_OF_RANGE);
+        return Err(Refusal::OutOfRange);
     }
     if scratch.len() < need {
-        return Masked::Refused(refusal::SHORT_OUTPUT);
+        return Err(Refusal::ShortOutput);
     }
     sweep(ids, keep, &mut mask[..frames], &mut scratch[..need]);
-    Masked::Written(frames)
+    Ok(frames)
 }

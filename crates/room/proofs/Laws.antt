@@ -10,6 +10,10 @@ use borrow.Author.Tests.{eq-eqb, ne_eqb, ltb-false}
 use lib.ListN.{length}
 use Rattle.format.specs.File.{Entry, table_bytes}
 use Rattle.format.specs.Refusal.{lowest}
+use Rattle.format.specs.Refused.{number_of, number_in}
+use Rattle.format.specs.declared.refusal.Refusal.{Refusal}
+use Rattle.format.specs.declared.refusal.Refusal.TheVariants as refusal
+use Rattle.std.specs.Prelude.{Result, Ok, Err}
 use Rattle.format.specs.declared.event.Event.{Event}
 use Rattle.format.specs.declared.event.Event.TheVariants as event
 use Rattle.format.proofs.Files.{length_table}
@@ -29,6 +33,41 @@ use Rattle.room.specs.declared.Plan.{Plan}
 -- a test of the input, made of the plan
 pub many_as : (p : Plan) (f : Frames) {b : Bool} (codes metadata : ℕ) → f ≡ counted p → b ≡ too_many f codes metadata → b ≡ too_many (counted p) codes metadata
 many_as p f codes metadata e h = h ∙ ap (λ (x : Frames). too_many x codes metadata) e
+
+-- no refusal has the number 0
+pub numbered : (r : Refusal) → number_of r ≡ 0 → ⊥
+numbered refusal.VersionTooNew e = omega arith
+numbered refusal.TooMany e = omega arith
+numbered refusal.BadStore e = omega arith
+numbered refusal.WideCell e = omega arith
+numbered refusal.BadOffsets e = omega arith
+numbered refusal.BadPresence e = omega arith
+numbered refusal.BadPorts e = omega arith
+numbered refusal.BadBlock e = omega arith
+numbered refusal.BadStart e = omega arith
+numbered refusal.BadCodes e = omega arith
+numbered refusal.BadEnd e = omega arith
+numbered refusal.ShortOutput e = omega arith
+numbered refusal.OutOfRange e = omega arith
+numbered refusal.NotAReplay e = omega arith
+numbered refusal.BadTable e = omega arith
+numbered refusal.UnknownEvent e = omega arith
+numbered refusal.BadPlace e = omega arith
+numbered refusal.LongInput e = omega arith
+numbered refusal.BadEvents e = omega arith
+numbered refusal.TooDeep e = omega arith
+numbered refusal.LongText e = omega arith
+numbered refusal.RepeatedKey e = omega arith
+numbered refusal.BadBody e = omega arith
+numbered refusal.NoIndex e = omega arith
+numbered refusal.BadIndex e = omega arith
+numbered refusal.OtherReplay e = omega arith
+numbered refusal.NoSuchId e = omega arith
+
+-- an answer that is no refusal has it
+pub unrefused : {A : Type 0} (x : Result A Refusal) → ((r : Refusal) → x ≡ Err r → ⊥) → number_in x ≡ 0
+unrefused (Ok a) h = refl
+unrefused (Err r) h = absurd (h r refl)
 
 -- what is known of a plan that is not refused
 pub bounded : (p : Plan) → lowest (room_refusals p) ≡ 0 → Bounded p

@@ -4,13 +4,14 @@
 ghost use Rattle.std.specs.Prelude.{◌≡◌, true, map, ◌≤◌, length};
 ghost use Rattle.format.specs.File.{table_bytes};
 ghost use Rattle.format.specs.Refusal.{lowest};
+ghost use Rattle.format.specs.Refused.{number_in};
 ghost use Rattle.layout.specs.Columns.{sum};
 ghost use Rattle.layout.specs.Payloads.{order, entries_of};
 ghost use Rattle.room.specs.Room.{with_frames, how_many, event_room, counted, room_refusals, reserved};
 ghost use Rattle.room.specs.Inner.{Bounded, frames_room};
 
 use format::event::Event;
-use format::refusal;
+use format::refusal::Refusal;
 use format::version::Version;
 use game::frames::{Counts, Frames, PortColumn};
 use layout::payloads::{is_listed, payload_size, payload_sizes};
@@ -58,23 +59,23 @@ fn input(p: Plan) -> Frames
     }
 }
 
-fn judge(p: Plan) -> u8
-    ensures { result ≡ lowest (room_refusals p) }
+fn judge(p: Plan) -> Result<(), Refusal>
+    ensures { number_in result ≡ lowest (room_refusals p) }
 {
     let f = input(p);
     if frames::judge::too_new(f) {
-        return refusal::VERSION_TOO_NEW;
+        return Err(Refusal::VersionTooNew);
     }
     if frames::judge::too_many(f, p.codes, p.metadata) {
-        return refusal::TOO_MANY;
+        return Err(Refusal::TooMany);
     }
     if MAX_SLOTS < p.slots {
-        return refusal::BAD_PORTS;
+        return Err(Refusal::BadPorts);
     }
     if start::judge::block_wrong(p.version, p.block) {
-        return refusal::BAD_BLOCK;
+        return Err(Refusal::BadBlock);
     }
-    0
+    Ok(())
 }
 
 // Rows of a family with offsets: none without frames.
@@ -161,10 +162,9 @@ fn table_len(p: Plan) -> usize
 pub fn room(p: Plan) -> Reserved
     ensures { result ≡ reserved p }
 {
-    let n = judge(p);
-    if n != 0 {
+    if let Err(refusal) = judge(p) {
         return Reserved {
-            refused: n,
+            refused: refusal.number(),
             bytes: 0,
         };
     }

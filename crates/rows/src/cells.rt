@@ -14,10 +14,8 @@ fn block_cells(cells: &[u32], rows: usize, columns: usize, block: usize, row: us
 {
     let mut raw = [0u32; 32];
     let first = block * columns;
-    let mut k: usize = 0;
-    while k < columns {
+    for k in 0..columns {
         raw[k] = cells[(first + k) * rows + row];
-        k += 1;
     }
     raw
 }

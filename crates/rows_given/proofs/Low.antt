@@ -2,15 +2,17 @@
 -- Assumes nothing.
 use mathlib.Core.Path.{◌≡◌, refl, sym, ap, ◌∙◌}
 use mathlib.Core.Bool.{Bool, true, false, cond}
-use mathlib.Core.List.{List}
-use Prim.Native.Nat.{ℕ, zero, suc, ◌%◌, ◌^◌, ◌≤◌, ◌<◌, min}
+use mathlib.Core.List.{List, ◌++◌}
+use Prim.Native.Nat.{ℕ, zero, suc, ◌+◌, ◌-◌, ◌%◌, ◌^◌, ◌≤◌, ◌<◌, min}
 use native.Mathlib.Nat.{mod-lt, mod-one, mod-eq_of_lt, pow-suc, pow-le-pow_right, lt_of_lt_of_le}
 use native.Mathlib.Decide.{dec_lt}
 use native.Mathlib.Omega.{arith}
 use borrow.Author.Tests.{eqb-true, ne_eqb, lt-ltb, le-ltb}
 use lib.Dec.{ltb, eqb, lit<}
-use lib.ListN.{length, get_or, get_or-eq_default}
-use Rattle.wire.proofs.Laws.{tabulate_ext}
+use lib.ListN.{length, get_or, get_or-eq_default, take, drop, replicate, length-append, length-drop, length-replicate, get_or-append, get_or-replicate}
+use lib.Seq.{length-take-le, get_or-take, get_or-drop}
+use Rattle.std.proofs.lemmas.List.{get_or-append_right}
+use Rattle.wire.proofs.Laws.{tabulate_ext, tabulated}
 use Rattle.format.specs.declared.version.Version.{Version}
 use Rattle.layout.specs.Columns.{widths_of}
 use Rattle.layout.specs.declared.columns.Family.{Family}
@@ -36,6 +38,27 @@ first_enough cells n m e = tabulate_ext 32 _ _ (λ k _. one k)
                 | no q ↦ rw (le-ltb k n (omega arith)) refl
               ])
         ]
+
+-- cells that are there, over zeros
+pub first_filled : (cells : List ℕ) (n m : ℕ) → n ≤ 32 → m ≡ min n (length cells) → take m cells ++ drop m (replicate 32 0) ≡ first_cells (λ k. get_or cells k 0) n
+unfolding first_cells
+first_filled cells n m h e = there ∙ first_enough cells n m e
+  where
+    zeros : List ℕ
+    zeros = drop m (replicate 32 0)
+
+    long : length (take m cells) ≡ m
+    long = length-take-le m cells (omega (arith, e))
+
+    one : (k : ℕ) → k < 32 → get_or (take m cells ++ zeros) k 0 ≡ cond (ltb k m) (get_or cells k 0) 0
+    one k l =
+        elim (dec_lt k m) [
+          | yes q ↦ rw (lt-ltb k m q) (get_or-append (take m cells) zeros 0 k (omega (arith, long, q)) ∙ get_or-take m cells k 0 q)
+          | no r ↦ rw (le-ltb k m (omega arith)) (get_or-append_right (take m cells) zeros m k 0 long (omega arith) ∙ get_or-drop m (replicate 32 0) (k - m) 0 ∙ get_or-replicate 32 (m + (k - m)) 0 0 (omega arith))
+        ]
+
+    there : take m cells ++ zeros ≡ first_cells (λ k. get_or cells k 0) m
+    there = tabulated 0 (take m cells ++ zeros) 32 (λ k. cond (ltb k m) (get_or cells k 0) 0) (omega (arith, length-append (take m cells) zeros, long, length-drop {A = ℕ} m (replicate 32 0), length-replicate {A = ℕ} 32 0, e, h)) one
 
 -- ---- low bytes
 low_is : (w x : ℕ) → x < 0x1_0000_0000 → low_of w x ≡ x % 256 ^ w

@@ -1,5 +1,5 @@
 // Rows of cells that are given: no judgement and no refusal, for every bit pattern, every number of cells and every version.
-ghost use Rattle.std.specs.Prelude.{◌≡◌, ℕ, ◌≤◌, min, get_or};
+ghost use Rattle.std.specs.Prelude.{◌≡◌, ℕ, ◌≤◌, get_or};
 ghost use Rattle.format.specs.Mark.{flag_of};
 ghost use Rattle.rows.specs.Cells.{first_cells};
 ghost use Rattle.rows_given.specs.Given.{pre_given, post_given, item_given, frame_start_given, frame_end_given, fod_platform_given, dreamland_whispy_given, stadium_transformation_given};
@@ -17,27 +17,14 @@ use rows::small::{
     fod_platform_of, frame_end_of, frame_start_of, stadium_transformation_of,
 };
 
-fn less(a: usize, b: usize) -> usize
-    ensures { result ≡ min a b }
-{
-    if a < b {
-        return a;
-    }
-    b
-}
-
 // The first n cells, and zeros; cells that are missing are 0.
 fn filled(cells: &[u32], n: usize) -> [u32; 32]
     requires { n ≤ 32 }
     ensures { result ≡ first_cells (λ (k : ℕ). get_or cells.now k 0) n }
 {
-    let m = less(n, cells.len());
+    let m = n.min(cells.len());
     let mut raw = [0u32; 32];
-    let mut k: usize = 0;
-    while k < m {
-        raw[k] = cells[k];
-        k += 1;
-    }
+    raw[..m].copy_from_slice(&cells[..m]);
     raw
 }
 
@@ -51,10 +38,7 @@ fn given_cells(family: Family, version: Version, cells: &[u32]) -> [u32; 32]
 fn given_mark(mark: u32) -> u8
     ensures { result ≡ flag_of mark }
 {
-    if mark != 0 {
-        return 1;
-    }
-    0
+    u8::from(mark != 0)
 }
 
 pub fn pre_given(cells: &[u32], version: Version, present: u32) -> Pre

@@ -88,7 +88,7 @@ module _ (f : Frames) (s : Lent) (number slot a b room : ℕ) where
   abbrev last : List Refusal
   last = refuse 13 (no_run f number slot a b) ∷ refuse 12 (ltb room (run_length f (family_at number) a b)) ∷ []
 
-  first_refuses : (n : ℕ) → n ≡ lowest (refusals f s 0 0) → (n ≡ 0 → ⊥) → n ≡ rows_run_refusal f s number slot a b room
+  pub first_refuses : (n : ℕ) → n ≡ lowest (refusals f s 0 0) → (n ≡ 0 → ⊥) → n ≡ rows_run_refusal f s number slot a b room
   unfolding rows_run_refusal
   first_refuses n e ne = e ∙ sym (lowest_before (refusals f s 0 0) last (λ z. ne (e ∙ z)))
 
@@ -101,6 +101,9 @@ module _ (f : Frames) (s : Lent) (number slot a b room : ℕ) where
   unfolding run_refused unless_refused
   run_judged zero e = sym (last_decides (sym e))
   run_judged (suc n) e = first_refuses (suc n) e (λ z. absurd (omega (arith, z)))
+
+  pub rest_decides : {n m : ℕ} → n ≡ lowest (refusals f s 0 0) → n ≡ 0 → m ≡ run_refused 0 f number slot a b room → m ≡ rows_run_refusal f s number slot a b room
+  rest_decides {n} e z h = h ∙ ap (λ (k : ℕ). run_refused k f number slot a b room) (sym z) ∙ run_judged n e
 
   module _ (e : rows_run_refusal f s number slot a b room ≡ 0) where
     pub run_first : lowest (refusals f s 0 0) ≡ 0

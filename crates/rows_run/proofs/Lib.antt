@@ -1,6 +1,7 @@
 pub mod Families
 pub mod Strides
 pub mod Runs
+pub mod Numbers
 pub mod Judged
 pub mod Outcomes
 pub mod Same

@@ -40,20 +40,6 @@ module _ (f : Frames) (c : Cells) (family k : Family) (slot a : ℕ) (e : family
     plain_wrote q h = arm_wrote (wrote_as (plain_any f k (cells_of c k) [] presence slot a n q) h)
 
 -- ---- the public call
--- the stores without the ids, which no family has
-abbrev pub no_ids : Cells → Cells
-no_ids c = cells [] c.starts c.pres c.posts c.ends c.items c.fods c.whispys c.stadiums
-
-ids_apart : (c : Cells) (k : Family) → cells_of (no_ids c) k ≡ cells_of c k
-ids_apart c Pre = refl
-ids_apart c Post = refl
-ids_apart c FrameStart = refl
-ids_apart c Item = refl
-ids_apart c FrameEnd = refl
-ids_apart c FodPlatform = refl
-ids_apart c DreamlandWhispy = refl
-ids_apart c StadiumTransformation = refl
-
 module _ (f : Frames) (s : Lent) (number slot a b : ℕ) (out : List ℕ) where
   pub refused_run : {n : ℕ} → n ≡ rows_run_refusal f s number slot a b (length out) → (n ≡ 0 → ⊥) → RowsOutcome f s number slot a b out (record { refused = n; len = 0 }) out
   refused_run {n} e ne =
@@ -65,10 +51,10 @@ module _ (f : Frames) (s : Lent) (number slot a b : ℕ) (out : List ℕ) where
       }
 
   module _ (z : rows_run_refusal f s number slot a b (length out) ≡ 0) (family : Family) (e : family ≡ family_at number) where
-    stored : cells_of (no_ids s.cells) family ≡ cells_of s.cells (family_at number)
-    stored = ids_apart s.cells family ∙ ap (cells_of s.cells) e
+    stored : cells_of s.cells family ≡ cells_of s.cells (family_at number)
+    stored = ap (cells_of s.cells) e
 
-    same_rows : ranged (run_row f family (cells_of (no_ids s.cells) family) s.presence slot) a (b - a) ≡ run_cells f s (family_at number) slot a b
+    same_rows : ranged (run_row f family (cells_of s.cells family) s.presence slot) a (b - a) ≡ run_cells f s (family_at number) slot a b
     same_rows =
         ap (λ (xs : List ℕ). ranged (run_row f family xs s.presence slot) a (b - a)) stored
         ∙ ap (λ (k : Family). ranged (run_row f k (cells_of s.cells (family_at number)) s.presence slot) a (b - a)) e
@@ -76,13 +62,13 @@ module _ (f : Frames) (s : Lent) (number slot a b : ℕ) (out : List ℕ) where
     rows_length : length (run_cells f s (family_at number) slot a b) ≡ run_length f (family_at number) a b
     rows_length = length_rows f (family_at number) (cells_of s.cells (family_at number)) s.presence slot a (b - a)
 
-    pub run_running : Running f family (cells_of (no_ids s.cells) family) slot a b
+    pub run_running : Running f family (cells_of s.cells family) slot a b
     run_running = rw (stored, e) (running f s number slot a b (length out) z)
 
-    pub run_has_room : Room out 0 (ranged (run_row f family (cells_of (no_ids s.cells) family) s.presence slot) a (b - a))
+    pub run_has_room : Room out 0 (ranged (run_row f family (cells_of s.cells family) s.presence slot) a (b - a))
     run_has_room = room_as (sym same_rows) (record { fits = omega (arith, rows_length, run_room f s number slot a b (length out) z) })
 
-    pub written_run : {after : List ℕ} {r : ℕ} → Wrote out after 0 r (ranged (run_row f family (cells_of (no_ids s.cells) family) s.presence slot) a (b - a))
+    pub written_run : {after : List ℕ} {r : ℕ} → Wrote out after 0 r (ranged (run_row f family (cells_of s.cells family) s.presence slot) a (b - a))
         → RowsOutcome f s number slot a b out (record { refused = 0; len = r }) after
     written_run {after} {r} w =
         let put = wrote_as same_rows w in

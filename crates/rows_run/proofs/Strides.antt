@@ -2,13 +2,12 @@
 -- Assumes nothing.
 use mathlib.Core.Path.{◌≡◌, refl, ap, ◌∙◌}
 use mathlib.Core.List.{List, [], ◌∷◌}
-use Prim.Native.Nat.{ℕ, zero, suc, ◌+◌, ◌*◌, ◌^◌, ◌≤◌, ◌<◌}
-use native.Mathlib.Nat.{add-mul, mul-le-mul_right}
+use Prim.Native.Nat.{ℕ, zero, suc, ◌+◌, ◌*◌, ◌<◌}
 use native.Mathlib.Omega.{arith}
 use lib.ListN.{length, get_or}
 use Rattle.wire.specs.Wire.{ranged, tabulate}
 use Rattle.wire.proofs.Laws.{length_ranged, tabulated}
-use Rattle.rows_run.specs.Inner.{strided, Strides}
+use Rattle.rows_run.specs.Inner.{strided}
 
 -- one element after another
 single_at : (g : ℕ → ℕ) (i n j : ℕ) → j < n → get_or (ranged (λ k. g k ∷ []) i n) j 0 ≡ g (i + j)
@@ -28,18 +27,3 @@ module _ (cells : List ℕ) (first step n : ℕ) where
 
   pub strided_is : strided cells first step n ≡ tabulate n (λ k. get_or cells (first + k * step) 0)
   strided_is = tabulated 0 (strided cells first step n) n (λ k. get_or cells (first + k * step) 0) strided_length strided_at
-
--- the next cell is a step further
-pub next_cell : (first step k : ℕ) {i : ℕ} → i ≡ first + k * step → i + step ≡ first + (k + 1) * step
-next_cell first step k e = let d : (k + 1) * step ≡ k * step + 1 * step = add-mul k 1 step in omega (arith, d, e)
-
--- and its place fits
-pub next_fits : (cells : List ℕ) (first step n k : ℕ) {i : ℕ} → Strides cells first step n → k < n → i ≡ first + k * step → i + step < 2 ^ 64
-next_fits cells first step n k s h e =
-    let l : k + 1 ≤ n = omega (arith, h) in
-    let m : (k + 1) * step ≤ n * step = mul-le-mul_right step l in
-    omega (arith, m, s.far, next_cell first step k e)
-
--- a cell is there
-pub cell_there : (cells : List ℕ) (first step n k : ℕ) {i : ℕ} → Strides cells first step n → k < n → i ≡ first + k * step → i < length cells
-cell_there cells first step n k s h e = omega (arith, s.each k h, e)

@@ -23,25 +23,16 @@ fn put_cells(
     requires { Room out.old at (strided cells.now first step n) × Strides cells.now first step n }
     ensures { Wrote out.old out.new at result (strided cells.now first step n) }
 {
-    let mut p = at;
-    let mut i = first;
-    let mut k: usize = 0;
-    while k < n {
-        out[p] = cells[i];
-        p += 1;
-        i += step;
-        k += 1;
+    for k in 0..n {
+        out[at + k] = cells[first + k * step];
     }
-    p
+    at + n
 }
 
 fn mark_cell(presence: &[u8], at: usize, len: u32, i: usize) -> u32
     ensures { result ≡ cond (marked presence.now at len i) 1 0 }
 {
-    if is_present(presence, at, len, i) {
-        return 1;
-    }
-    0
+    u32::from(is_present(presence, at, len, i))
 }
 
 // The rows of a family without players from a on and before b.
@@ -58,10 +49,8 @@ fn put_plain(
     ensures { Wrote out.old out.new 0 result (ranged (plain_row cells.now first rows n) a (b - a)) }
 {
     let mut p: usize = 0;
-    let mut i = a;
-    while i < b {
+    for i in a..b {
         p = put_cells(out, p, cells, first + i, rows, n);
-        i += 1;
     }
     p
 }
@@ -84,13 +73,11 @@ fn put_players(
     ensures { Wrote out.old out.new 0 result (ranged (player_row cells.now presence.now first rows n at len) a (b - a)) }
 {
     let mut p: usize = 0;
-    let mut i = a;
-    while i < b {
+    for i in a..b {
         let mark = mark_cell(presence, at, len, i);
         p = put_cells(out, p, cells, first + i, rows, n);
         out[p] = mark;
         p += 1;
-        i += 1;
     }
     p
 }

@@ -27,14 +27,14 @@ use Rattle.de.specs.Cut.{events_read}
 use Rattle.de.specs.declared.Walked.TheVariants as walked
 use Rattle.game.specs.Stores.{Stores}
 use Rattle.game.specs.declared.Game.{Game}
-use Rattle.ser.specs.declared.written.Written.TheVariants.{File}
-use Rattle.ser.specs.Write.{entries, events, file, judged, refusal, write_answer, WrittenNumbers, written_numbers, left, WriterOutcome}
+use Rattle.std.specs.Prelude.{Ok}
+use Rattle.ser.specs.Write.{entries, events, file, judged, refusal, write_numbers, WrittenNumbers, written_numbers, left, WriterOutcome}
 use Rattle.ser.proofs.Outcomes.{Passed, not_refused, numbered_eleven}
 use Rattle.ser.proofs.Sound as sound
 use Rattle.ser.proofs.EveryCut as every
 
 -- a file is answered where nothing is refused, and its length is the file's
-answered_file : (k n m : ℕ) → written_numbers (File n) ≡ written_numbers (write_answer k m) → (k ≡ 0) × (n ≡ m)
+answered_file : (k n m : ℕ) → written_numbers (Ok n) ≡ write_numbers k m → (k ≡ 0) × (n ≡ m)
 answered_file zero n m e = (refl_of zero, ap (λ (w : WrittenNumbers). w.len) e)
   where
     refl_of : (k : ℕ) → k ≡ k
@@ -45,7 +45,7 @@ left_file : (k : ℕ) (out f : List ℕ) → k ≡ 0 → left k out f ≡ splice
 left_file zero out f e = λ i. splice out 0 f
 left_file (suc k) out f e = absurd (omega arith)
 
-module _ {g : Game} {s : Stores} {out out' : List ℕ} {n : ℕ} (o : WriterOutcome g s out (File n) out') where
+module _ {g : Game} {s : Stores} {out out' : List ℕ} {n : ℕ} (o : WriterOutcome g s out (Ok n) out') where
   pub none_applies : (refusal g s (length out) ≡ 0) × (n ≡ length (file g s))
   none_applies = answered_file (refusal g s (length out)) n (length (file g s)) o.answer_is
 

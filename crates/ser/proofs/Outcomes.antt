@@ -6,6 +6,7 @@ use mathlib.Core.List.{List, [], ◌∷◌, ◌++◌}
 use Prim.Native.Nat.{ℕ, zero, suc, ◌+◌, ◌*◌, ◌≤◌, ◌<◌}
 use native.Mathlib.Nat.{suc-mul, zero-mul}
 use native.Mathlib.Omega.{arith}
+use Rattle.std.specs.Prelude.{Ok, Err}
 use borrow.Author.Tests.{lt-ltb, le-ltb}
 use lib.Dec.{ltb, lit<}
 use lib.ListN.{length, length-append}
@@ -14,6 +15,10 @@ use Rattle.wire.proofs.Laws.{length_be}
 use Rattle.format.specs.File.{table_bytes, events_bytes, file_of}
 use Rattle.format.specs.Mark.{yes}
 use Rattle.format.specs.Refusal.{refuse, lowest}
+use Rattle.format.specs.Refused.{number_of}
+use Rattle.format.specs.declared.refusal.Refusal.{Refusal}
+use Rattle.format.specs.declared.refusal.Refusal.TheVariants.{ShortOutput}
+use Rattle.format.proofs.Numbers.{not_zero}
 use Rattle.format.proofs.Refusals.{Numbered, here, skip, none, passed, lowest_after, lowest_first}
 use Rattle.game.specs.Frames.{Slot}
 use Rattle.frames.specs.Judge.{refusals}
@@ -26,9 +31,8 @@ use Rattle.codes.specs.Blocks.{codes_wrong}
 use Rattle.ending.specs.Tail.{tail_of}
 use Rattle.ending.proofs.Lengths.{length_tail}
 use Rattle.game.specs.declared.Game.{Game}
-use Rattle.ser.specs.declared.written.Written.TheVariants.{File, Refused}
 use Rattle.game.specs.Stores.{Stores}
-use Rattle.ser.specs.Write.{given_bytes, entries, events, file, judged, refusal, write_answer, written_numbers, left, WriterOutcome}
+use Rattle.ser.specs.Write.{given_bytes, entries, events, file, judged, refusal, write_numbers, WrittenNumbers, left, WriterOutcome}
 use Rattle.ser.proofs.Laws.{stopped, went_on}
 
 -- ---- a game that is not refused
@@ -86,7 +90,7 @@ file_size g s raw t e q =
 
 -- ---- the answers
 
-refused_as_lem : (k m : ℕ) (out f : List ℕ) → (k ≡ 0 → ⊥) → (write_answer k m ≡ Refused k) × (left k out f ≡ out)
+refused_as_lem : (k m : ℕ) (out f : List ℕ) → (k ≡ 0 → ⊥) → (◌≡◌ {A = WrittenNumbers} (record { kind = 1; number = k; len = 0 }) (write_numbers k m)) × (out ≡ left k out f)
 refused_as_lem zero m out f h = absurd (h refl)
 refused_as_lem (suc k) m out f h = (refl, refl)
 
@@ -95,29 +99,30 @@ unfolding Numbered judged refusals
 numbered_eleven g s = (lit< tt, (lit< tt, (lit< tt, (lit< tt, (lit< tt, (lit< tt, (lit< tt, (lit< tt, (lit< tt, (lit< tt, (lit< tt, tt)))))))))))
 
 module _ {g : Game} {s : Stores} {out : List ℕ} where
-  outcome_refused : (k : ℕ) → k ≡ refusal g s (length out) → (k ≡ 0 → ⊥) → WriterOutcome g s out (Refused k) out
-  outcome_refused k e h =
-      let (a, b) = refused_as_lem k (length (file g s)) out (file g s) h in
+  outcome_refused : (r : Refusal) → number_of r ≡ refusal g s (length out) → WriterOutcome g s out (Err r) out
+  outcome_refused r e =
+      let (a, b) = refused_as_lem (number_of r) (length (file g s)) out (file g s) (not_zero r) in
       record {
-        answer_is = ap written_numbers (sym (ap (λ (i : ℕ). write_answer i (length (file g s))) (sym e) ∙ a));
-        out_is = sym (ap (λ (i : ℕ). left i out (file g s)) (sym e) ∙ b);
+        answer_is = a ∙ ap (λ (i : ℕ). write_numbers i (length (file g s))) e;
+        out_is = b ∙ ap (λ (i : ℕ). left i out (file g s)) e;
       }
 
-  pub judged_refused : (n : ℕ) → n ≡ lowest (judged g s) → (n ≡ 0 → ⊥) → WriterOutcome g s out (Refused n) out
+  pub judged_refused : (r : Refusal) → number_of r ≡ lowest (judged g s) → WriterOutcome g s out (Err r) out
   unfolding refusal
-  judged_refused n e h = outcome_refused n (stopped _ _ e h) h
+  judged_refused r e = outcome_refused r (stopped _ _ e (not_zero r))
 
-  pub short_refused : (n total : ℕ) → n ≡ lowest (judged g s) → n ≡ 0 → length (file g s) ≡ total → length out < total → WriterOutcome g s out (Refused 12) out
+  pub short_refused : (total : ℕ) → 0 ≡ lowest (judged g s) → length (file g s) ≡ total → length out < total → WriterOutcome g s out (Err ShortOutput) out
   unfolding refusal
-  short_refused n total e z q h =
-      outcome_refused 12 (went_on _ _ 12 e z (numbered_eleven g s) (here 12 _ _ (lt-ltb (length out) (length (file g s)) (omega arith)))) (λ x. absurd (omega arith))
+  short_refused total e q h =
+      outcome_refused ShortOutput (went_on _ _ 12 e refl (numbered_eleven g s) (here 12 _ _ (lt-ltb (length out) (length (file g s)) (omega arith))))
 
-  pub written : {after : List ℕ} (n total : ℕ) {next : ℕ} → n ≡ lowest (judged g s) → n ≡ 0 → length (file g s) ≡ total → total ≤ length out
-      → Wrote out after 0 next (file g s) → WriterOutcome g s out (File total) after
+  pub written : {after : List ℕ} (total : ℕ) {next : ℕ} → 0 ≡ lowest (judged g s) → length (file g s) ≡ total → total ≤ length out
+      → Wrote out after 0 next (file g s) → WriterOutcome g s out (Ok total) after
   unfolding refusal
-  written n total e z q h w =
-      let zero_is : 0 ≡ lowest (judged g s ++ (refuse 12 (ltb (length out) (length (file g s))) ∷ [])) = went_on _ _ 0 e z (numbered_eleven g s) (skip 12 _ _ _ (le-ltb (length out) (length (file g s)) (omega arith)) none) in
+  written total e q h w =
+      let zero_is : 0 ≡ lowest (judged g s ++ (refuse 12 (ltb (length out) (length (file g s))) ∷ [])) =
+      went_on _ _ 0 e refl (numbered_eleven g s) (skip 12 _ _ _ (le-ltb (length out) (length (file g s)) (omega arith)) none) in
       record {
-        answer_is = ap written_numbers (ap File (sym q) ∙ ap (λ (i : ℕ). write_answer i (length (file g s))) zero_is);
+        answer_is = ap (write_numbers 0) (sym q) ∙ ap (λ (i : ℕ). write_numbers i (length (file g s))) zero_is;
         out_is = w.after_is ∙ ap (λ (i : ℕ). left i out (file g s)) zero_is;
       }

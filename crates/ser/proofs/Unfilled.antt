@@ -28,7 +28,7 @@ use Rattle.de.specs.declared.Walked.TheVariants as walked
 use Rattle.de.proofs.Unfilled as any
 use Rattle.game.specs.declared.Game.{Game}
 use Rattle.game.specs.Stores.{Stores}
-use Rattle.ser.specs.declared.written.Written.TheVariants.{File}
+use Rattle.std.specs.Prelude.{Ok}
 use Rattle.ser.specs.Write.{entries, events, file, WriterOutcome}
 use Rattle.ser.proofs.Outcomes.{Passed}
 use Rattle.ser.proofs.Sound.{fresh, all_listed, length_fits}
@@ -96,7 +96,7 @@ module _ {g : Game} {s : Stores} (p : Passed g s) where
 
 -- ---- what was answered and left
 
-module _ {g : Game} {s : Stores} {out out' : List ℕ} {n : ℕ} (o : WriterOutcome g s out (File n) out') (k : ℕ) where
+module _ {g : Game} {s : Stores} {out out' : List ℕ} {n : ℕ} (o : WriterOutcome g s out (Ok n) out') (k : ℕ) where
   abbrev true_cut_lem : List ℕ
   true_cut_lem = take k (take n out')
 

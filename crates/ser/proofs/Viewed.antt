@@ -27,7 +27,7 @@ use Rattle.start.specs.Gate.{reaches, match_from}
 use Rattle.start.specs.Length.{length_of}
 use Rattle.start.proofs.Refusals.{block_fits}
 use Rattle.start.proofs.Views as views
-use Rattle.ser.specs.declared.written.Written.TheVariants.{File}
+use Rattle.std.specs.Prelude.{Ok}
 use Rattle.ser.specs.Write.{entries, events, file, WriterOutcome}
 use Rattle.ser.specs.Inner.{front_bytes, rest_bytes}
 use Rattle.ser.proofs.Files.{file_parts}
@@ -72,7 +72,7 @@ module _ {g : Game} {s : Stores} (p : Passed g s) where
       rw (file_parts g s, ← length_front g s) (views.match_id_read g.frames.version g.start s.template (front g s) (rest g s) long p.start on array)
 
 -- the same of what `write` answered and left
-module _ {g : Game} {s : Stores} {out out' : List ℕ} {n : ℕ} (o : WriterOutcome g s out (File n) out') where
+module _ {g : Game} {s : Stores} {out out' : List ℕ} {n : ℕ} (o : WriterOutcome g s out (Ok n) out') where
   pub written_texts : length g.start.seats ≡ 4 → (k : ℕ) → k < 4 → yes (get_or g.start.seats k no_seat).given ≡ true
       → views.Arrays (get_or g.start.seats k no_seat)
       → views.Read g.frames.version (take n out') (block_place g s) k (get_or g.start.seats k no_seat)

@@ -1,10 +1,12 @@
 -- The replay file of a game, and when it is refused.
 -- Assumes nothing.
-use Rattle.std.specs.Prelude.{ℕ, zero, suc, ◌≡◌, cond, List, [], ◌∷◌, ◌++◌, ltb, length}
+use Rattle.std.specs.Prelude.{ℕ, zero, suc, ◌≡◌, cond, List, [], ◌∷◌, ◌++◌, ltb, length, Result, Ok, Err}
 use Rattle.wire.specs.Wire.{splice}
 use Rattle.format.specs.Event.{code_of}
 use Rattle.format.specs.File.{Entry, Ev, file_of}
 use Rattle.format.specs.Refusal.{Refusal, refuse, lowest}
+use Rattle.format.specs.Refused.{number_of}
+use Rattle.format.specs.declared.refusal.Refusal as code
 use Rattle.format.specs.declared.event.Event.TheVariants.{GameStart}
 use Rattle.layout.specs.Payloads.{entries_of}
 use Rattle.game.specs.Stores.{Stores}
@@ -17,8 +19,6 @@ use Rattle.codes.specs.Blocks.{code_events, codes_wrong}
 use Rattle.ending.specs.End.{end_events, end_wrong}
 use Rattle.ending.specs.Tail.{tail_of}
 use Rattle.game.specs.declared.Game.{Game}
-use Rattle.ser.specs.declared.written.Written.{Written}
-use Rattle.ser.specs.declared.written.Written.TheVariants.{File, Refused}
 
 -- bytes that are given; those without their mark are ignored
 abbrev pub given_bytes : ℕ → List ℕ → ℕ
@@ -57,25 +57,27 @@ refusal g s room = lowest (judged g s ++ (refuse 12 (ltb room (length (file g s)
 
 -- ---- what the call answers, and what the output is afterwards
 
-abbrev pub write_answer : ℕ → ℕ → Written
-write_answer zero n = File n
-write_answer (suc k) n = Refused (suc k)
-
 -- an answer in numbers: 0 for a file, 1 for a refusal; the refusal's number; the file's length
 pub record WrittenNumbers : Type 0 where
   pub kind : ℕ
   pub number : ℕ
   pub len : ℕ
 
-abbrev pub written_numbers : Written → WrittenNumbers
-written_numbers (File n) = record { kind = 0; number = 0; len = n }
-written_numbers (Refused k) = record { kind = 1; number = k; len = 0 }
+-- of a refusal's number, 0 where none applies, and the file's length
+abbrev pub write_numbers : ℕ → ℕ → WrittenNumbers
+write_numbers zero n = record { kind = 0; number = 0; len = n }
+write_numbers (suc k) n = record { kind = 1; number = suc k; len = 0 }
+
+-- of what the call answers
+abbrev pub written_numbers : Result ℕ code.Refusal → WrittenNumbers
+written_numbers (Ok n) = record { kind = 0; number = 0; len = n }
+written_numbers (Err r) = record { kind = 1; number = number_of r; len = 0 }
 
 -- the output: the file at its start and the rest as it was, or all as it was
 abbrev pub left : ℕ → List ℕ → List ℕ → List ℕ
 left zero out file = splice out 0 file
 left (suc k) out file = out
 
-pub record WriterOutcome (g : Game) (s : Stores) (out : List ℕ) (r : Written) (out' : List ℕ) : Type 0 where
-  pub answer_is : written_numbers r ≡ written_numbers (write_answer (refusal g s (length out)) (length (file g s)))
+pub record WriterOutcome (g : Game) (s : Stores) (out : List ℕ) (r : Result ℕ code.Refusal) (out' : List ℕ) : Type 0 where
+  pub answer_is : written_numbers r ≡ write_numbers (refusal g s (length out)) (length (file g s))
   pub out_is : out' ≡ left (refusal g s (length out)) out (file g s)

@@ -3,7 +3,7 @@ ghost use Rattle.std.specs.Prelude.{◌≡◌, Bool, true, ◌++◌, ◌*◌, �
 ghost use Rattle.wire.specs.Wire.{Room, Wrote};
 ghost use Rattle.format.specs.Mark.{yes};
 ghost use Rattle.players.specs.Inner.{Slotted};
-ghost use Rattle.game.specs.Stores.{cells, offsets, lent};
+ghost use Rattle.game.specs.Held.{lent_in};
 ghost use Rattle.codes.specs.Blocks.{block_count};
 ghost use Rattle.events.specs.Inner.{Framed};
 ghost use Rattle.ser.specs.Inner.{front_bytes, rest_bytes};
@@ -12,6 +12,7 @@ use super::judge::is_given;
 use format::event::Event;
 use format::version::Version;
 use game::Game;
+use game::stores::Lent;
 use layout::payloads::put_table;
 use players::slots::Slots;
 
@@ -41,66 +42,20 @@ pub fn put_rest(
     at: usize,
     g: Game,
     s: Slots,
-    ids: &[u32],
-    starts: &[u32],
-    pres: &[u32],
-    posts: &[u32],
-    ends: &[u32],
-    items: &[u32],
-    fods: &[u32],
-    whispys: &[u32],
-    stadiums: &[u32],
-    item_offsets: &[u32],
-    fod_offsets: &[u32],
-    whispy_offsets: &[u32],
-    stadium_offsets: &[u32],
-    presence: &[u8],
+    lent: &Lent<'_>,
     codes: &[u8],
     metadata: &[u8],
 ) -> usize
     requires { (yes g.codes_given ≡ true → length codes.now ≡ 512 * block_count g.actual_size)
-        × Framed g.frames (lent
-        (cells ids.now starts.now pres.now posts.now ends.now
-        items.now fods.now whispys.now stadiums.now)
-        (offsets item_offsets.now fod_offsets.now whispy_offsets.now stadium_offsets.now)
-        presence.now)
+        × Framed g.frames (lent_in lent.now)
         × Slotted g.frames s
-        × Room out.old at (rest_bytes g (lent
-        (cells ids.now starts.now pres.now posts.now ends.now
-        items.now fods.now whispys.now stadiums.now)
-        (offsets item_offsets.now fod_offsets.now whispy_offsets.now stadium_offsets.now)
-        presence.now) codes.now metadata.now) }
-    ensures { Wrote out.old out.new at result (rest_bytes g (lent
-        (cells ids.now starts.now pres.now posts.now ends.now
-        items.now fods.now whispys.now stadiums.now)
-        (offsets item_offsets.now fod_offsets.now whispy_offsets.now stadium_offsets.now)
-        presence.now) codes.now metadata.now) }
+        × Room out.old at (rest_bytes g (lent_in lent.now) codes.now metadata.now) }
+    ensures { Wrote out.old out.new at result (rest_bytes g (lent_in lent.now) codes.now metadata.now) }
 {
     let f = g.frames;
     let end = g.end;
     let mut p = codes::blocks::put_codes(out, at, is_given(g.codes_given), codes, g.actual_size);
-    p = events::frame::put_frames(
-        out,
-        p,
-        f,
-        s,
-        0,
-        f.counts.frames,
-        ids,
-        starts,
-        pres,
-        posts,
-        ends,
-        items,
-        fods,
-        whispys,
-        stadiums,
-        item_offsets,
-        fod_offsets,
-        whispy_offsets,
-        stadium_offsets,
-        presence,
-    );
+    p = events::frame::put_frames(out, p, f, s, 0, f.counts.frames, lent);
     p = ending::end::put_ends(out, p, f.version, end, g.double_end);
     ending::tail::put_tail(out, p, is_given(g.metadata_given), metadata)
 }

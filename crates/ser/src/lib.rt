@@ -5,4 +5,3 @@ pub mod file;
 pub mod judge;
 pub mod length;
 pub mod write;
-pub mod written;

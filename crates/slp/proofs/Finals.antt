@@ -5,13 +5,13 @@ use mathlib.Core.Path.{◌≡◌, sym, ap, ◌∙◌}
 use mathlib.Core.List.{List}
 use Rattle.game.specs.Stores.{Stores}
 use Rattle.game.specs.declared.Game.{Game}
-use Rattle.ser.specs.declared.written.Written.{Written}
+use Rattle.format.specs.Refused.{Answer}
 use Rattle.final_file.specs.Write.{FinalOutcome}
 use Rattle.answers.specs.declared.SlpWritten.{SlpWritten}
 use Rattle.answers.specs.Answers.{written_struct, written}
 use Rattle.slp.specs.Finals.{FinalWriteOutcome}
 
-pub final_outcome : {g : Game} {s : Stores} {out scratch out' scratch' : List ℕ} {w : Written} {r : SlpWritten} →
+pub final_outcome : {g : Game} {s : Stores} {out scratch out' scratch' : List ℕ} {w : Answer ℕ} {r : SlpWritten} →
     FinalOutcome g s out scratch w out' scratch' → r ≡ written w → FinalWriteOutcome g s out scratch r out' scratch'
 final_outcome o n = record { answer_is = n ∙ ap written_struct o.answer_is; out_is = o.out_is; scratch_is = o.scratch_is }
 

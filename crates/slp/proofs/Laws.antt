@@ -11,8 +11,8 @@ use Rattle.layout.specs.Columns.{widths_of}
 use Rattle.layout.specs.declared.columns.Family.{Family}
 use Rattle.rollback.specs.Mask as rollback
 use Rattle.rollback.specs.declared.frame.Rollbacks.{Rollbacks}
-use Rattle.rollback.specs.declared.frame.Masked.{Masked}
-use Rattle.rollback.proofs.Only.{same_answer}
+use Rattle.std.specs.Prelude.{Result}
+use Rattle.format.specs.declared.refusal.Refusal.{Refusal}
 use Rattle.game.specs.Stores.{Lent, Stores}
 use Rattle.game.specs.declared.frames.Frames.{Frames}
 use Rattle.append.specs.Run as append
@@ -21,7 +21,7 @@ use Rattle.answers.specs.declared.SlpAppended.{SlpAppended}
 use Rattle.rows_run.specs.Run.{family_at}
 use Rattle.ser.specs.Write as write
 use Rattle.game.specs.declared.Game.{Game}
-use Rattle.ser.specs.declared.written.Written.{Written}
+use Rattle.format.specs.Refused.{Answer}
 use Rattle.answers.specs.declared.SlpWritten.{SlpWritten}
 use Rattle.answers.specs.Answers.{written_struct, written, appended_struct, appended_as, keep_of}
 use Rattle.names.specs.Names.{no_column, described}
@@ -29,18 +29,17 @@ use Rattle.names.specs.declared.columns.Described.{Described}
 use Rattle.slp.specs.Columns.{store_columns, store_column}
 use Rattle.slp.specs.Outcomes.{MaskOutcome, WriteOutcome, AppendOutcome}
 
-pub mask_outcome : {ids mask scratch ma sa : List ℕ} {keep : Rollbacks} {k number : ℕ} {answer : Masked} →
+pub mask_outcome : {ids mask scratch ma sa : List ℕ} {keep : Rollbacks} {k number : ℕ} {answer : Result ℕ Refusal} →
     keep ≡ keep_of k → rollback.RollbackOutcome ids keep mask scratch answer ma sa → number ≡ (rollback.mask_numbers answer).number →
     MaskOutcome ids k mask scratch number ma sa
 mask_outcome {ids} {mask} {scratch} {keep = keep} {answer = answer} kept o n =
-    let same = same_answer answer (rollback.answer_of ids (length mask) (length scratch)) o.answer_is in
     record {
       number_is = n ∙ ap (λ (m : rollback.MaskNumbers). m.number) o.answer_is;
-      mask_is = o.mask_is ∙ ap (λ a. rollback.mask_after a keep ids mask) same ∙ ap (λ q. rollback.mask_after (rollback.answer_of ids (length mask) (length scratch)) q ids mask) kept;
-      scratch_is = o.scratch_is ∙ ap (λ a. rollback.scratch_after a ids scratch) same;
+      mask_is = o.mask_is ∙ ap (λ (a : rollback.MaskNumbers). rollback.mask_after a keep ids mask) o.answer_is ∙ ap (λ q. rollback.mask_after (rollback.answer_of ids (length mask) (length scratch)) q ids mask) kept;
+      scratch_is = o.scratch_is ∙ ap (λ (a : rollback.MaskNumbers). rollback.scratch_after a ids scratch) o.answer_is;
     }
 
-pub write_outcome : {g : Game} {s : Stores} {out out' : List ℕ} {w : Written} {r : SlpWritten} →
+pub write_outcome : {g : Game} {s : Stores} {out out' : List ℕ} {w : Answer ℕ} {r : SlpWritten} →
     write.WriterOutcome g s out w out' → r ≡ written w → WriteOutcome g s out r out'
 write_outcome o n = record { answer_is = n ∙ ap written_struct o.answer_is; out_is = o.out_is }
 

@@ -4,6 +4,7 @@
 pub mod check;
 pub mod fault;
 pub mod index;
+mod lent;
 pub mod live_calls;
 pub mod map_calls;
 pub mod masks;

@@ -23,10 +23,12 @@ pub extern "C" fn slp_write_map(
 ) -> SlpWritten
     ensures { WriteMapOutcome out.old cells.now texts.now count out.new (record { refusal = result.refused; len = result.len }) }
 {
-    let w = map::write::write_map(out, cells, texts, count);
-    SlpWritten {
-        refused: w.refusal,
-        len: w.len,
+    match map::write::write_map(out, cells, texts, count) {
+        Ok(len) => SlpWritten { refused: 0, len },
+        Err(refusal) => SlpWritten {
+            refused: refusal.number(),
+            len: 0,
+        },
     }
 }
 
@@ -35,11 +37,18 @@ pub extern "C" fn slp_read_map(body: &[u8], cells: &mut [u32]) -> SlpMapRead
     ensures { ReadMapOutcome body.now cells.old cells.new
         (record { refusal = result.refused; place = result.place; count = result.count; entries = result.entries }) }
 {
-    let r = map_reader::read::read_body(body, cells);
-    SlpMapRead {
-        refused: r.refusal,
-        place: r.place,
-        count: r.count,
-        entries: r.entries,
+    match map_reader::read::read_body(body, cells) {
+        Ok(read) => SlpMapRead {
+            refused: 0,
+            place: 0,
+            count: read.count,
+            entries: read.entries,
+        },
+        Err(wrong) => SlpMapRead {
+            refused: wrong.refusal.number(),
+            place: wrong.place,
+            count: 0,
+            entries: 0,
+        },
     }
 }

@@ -3,6 +3,7 @@ ghost use Rattle.std.specs.Prelude.{◌≡◌};
 ghost use Rattle.game.specs.Stores.{cells, offsets, lent};
 ghost use Rattle.transpose.specs.Answers.{frame_row, pre_row, post_row, item_row, fod_platform_row, dreamland_whispy_row, stadium_transformation_row};
 
+use crate::lent::lent_of;
 use game::frames::Frames;
 use transpose::frame::FrameRow;
 use transpose::records::{
@@ -34,8 +35,7 @@ pub extern "C" fn slp_frame_row(
         (offsets item_offsets.now fod_offsets.now whispy_offsets.now stadium_offsets.now)
         presence.now) index }
 {
-    transpose::frame::frame_row(
-        f,
+    let lent = lent_of(
         ids,
         starts,
         pres,
@@ -50,8 +50,8 @@ pub extern "C" fn slp_frame_row(
         whispy_offsets,
         stadium_offsets,
         presence,
-        index,
-    )
+    );
+    transpose::frame::frame_row(f, &lent, index)
 }
 
 #[unsafe(no_mangle)]
@@ -80,8 +80,7 @@ pub extern "C" fn slp_pre_row(
         (offsets item_offsets.now fod_offsets.now whispy_offsets.now stadium_offsets.now)
         presence.now) slot index }
 {
-    transpose::records::pre_row(
-        f,
+    let lent = lent_of(
         ids,
         starts,
         pres,
@@ -96,9 +95,8 @@ pub extern "C" fn slp_pre_row(
         whispy_offsets,
         stadium_offsets,
         presence,
-        slot,
-        index,
-    )
+    );
+    transpose::records::pre_row(f, &lent, slot, index)
 }
 
 #[unsafe(no_mangle)]
@@ -127,8 +125,7 @@ pub extern "C" fn slp_post_row(
         (offsets item_offsets.now fod_offsets.now whispy_offsets.now stadium_offsets.now)
         presence.now) slot index }
 {
-    transpose::records::post_row(
-        f,
+    let lent = lent_of(
         ids,
         starts,
         pres,
@@ -143,9 +140,8 @@ pub extern "C" fn slp_post_row(
         whispy_offsets,
         stadium_offsets,
         presence,
-        slot,
-        index,
-    )
+    );
+    transpose::records::post_row(f, &lent, slot, index)
 }
 
 #[unsafe(no_mangle)]
@@ -173,8 +169,7 @@ pub extern "C" fn slp_item_row(
         (offsets item_offsets.now fod_offsets.now whispy_offsets.now stadium_offsets.now)
         presence.now) index }
 {
-    transpose::records::item_row(
-        f,
+    let lent = lent_of(
         ids,
         starts,
         pres,
@@ -189,8 +184,8 @@ pub extern "C" fn slp_item_row(
         whispy_offsets,
         stadium_offsets,
         presence,
-        index,
-    )
+    );
+    transpose::records::item_row(f, &lent, index)
 }
 
 #[unsafe(no_mangle)]
@@ -218,8 +213,7 @@ pub extern "C" fn slp_fod_platform_row(
         (offsets item_offsets.now fod_offsets.now whispy_offsets.now stadium_offsets.now)
         presence.now) index }
 {
-    transpose::records::fod_platform_row(
-        f,
+    let lent = lent_of(
         ids,
         starts,
         pres,
@@ -234,8 +228,8 @@ pub extern "C" fn slp_fod_platform_row(
         whispy_offsets,
         stadium_offsets,
         presence,
-        index,
-    )
+    );
+    transpose::records::fod_platform_row(f, &lent, index)
 }
 
 #[unsafe(no_mangle)]
@@ -263,8 +257,7 @@ pub extern "C" fn slp_dreamland_whispy_row(
         (offsets item_offsets.now fod_offsets.now whispy_offsets.now stadium_offsets.now)
         presence.now) index }
 {
-    transpose::records::dreamland_whispy_row(
-        f,
+    let lent = lent_of(
         ids,
         starts,
         pres,
@@ -279,8 +272,8 @@ pub extern "C" fn slp_dreamland_whispy_row(
         whispy_offsets,
         stadium_offsets,
         presence,
-        index,
-    )
+    );
+    transpose::records::dreamland_whispy_row(f, &lent, index)
 }
 
 #[unsafe(no_mangle)]
@@ -308,8 +301,7 @@ pub extern "C" fn slp_stadium_transformation_row(
         (offsets item_offsets.now fod_offsets.now whispy_offsets.now stadium_offsets.now)
         presence.now) index }
 {
-    transpose::records::stadium_transformation_row(
-        f,
+    let lent = lent_of(
         ids,
         starts,
         pres,
@@ -324,6 +316,6 @@ pub extern "C" fn slp_stadium_transformation_row(
         whispy_offsets,
         stadium_offsets,
         presence,
-        index,
-    )
+    );
+    transpose::records::stadium_transformation_row(f, &lent, index)
 }

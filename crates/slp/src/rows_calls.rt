@@ -4,6 +4,7 @@ ghost use Rattle.game.specs.Stores.{cells, offsets, lent};
 ghost use Rattle.rows_given.specs.Given.{pre_given, post_given, item_given, frame_start_given, frame_end_given, fod_platform_given, dreamland_whispy_given, stadium_transformation_given};
 ghost use Rattle.rows_run.specs.Run.{RowsOutcome};
 
+use crate::lent::lent_of;
 use format::version::Version;
 use game::frames::Frames;
 use rows::item::Item;
@@ -41,9 +42,7 @@ pub extern "C" fn slp_rows(
         (offsets item_offsets.now fod_offsets.now whispy_offsets.now stadium_offsets.now)
         presence.now) family slot a b out.old result out.new }
 {
-    rows_run::run::rows_of_run(
-        out,
-        f,
+    let lent = lent_of(
         ids,
         starts,
         pres,
@@ -58,11 +57,8 @@ pub extern "C" fn slp_rows(
         whispy_offsets,
         stadium_offsets,
         presence,
-        family,
-        slot,
-        a,
-        b,
-    )
+    );
+    rows_run::run::rows_of_run(out, f, &lent, family, slot, a, b)
 }
 
 #[unsafe(no_mangle)]

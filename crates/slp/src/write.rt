@@ -2,6 +2,7 @@
 ghost use Rattle.game.specs.Stores.{cells, offsets, lent, stores};
 ghost use Rattle.slp.specs.Outcomes.{WriteOutcome};
 
+use crate::lent::stores_of;
 use answers::{SlpWritten, written_numbers};
 use game::Game;
 
@@ -33,9 +34,7 @@ pub extern "C" fn slp_write(
         (offsets item_offsets.now fod_offsets.now whispy_offsets.now stadium_offsets.now)
         presence.now) template.now codes.now metadata.now) out.old result out.new }
 {
-    written_numbers(ser::write::write(
-        out,
-        g,
+    let stores = stores_of(
         ids,
         starts,
         pres,
@@ -53,5 +52,6 @@ pub extern "C" fn slp_write(
         template,
         codes,
         metadata,
-    ))
+    );
+    written_numbers(ser::write::write(out, g, &stores))
 }

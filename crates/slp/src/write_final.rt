@@ -2,6 +2,7 @@
 ghost use Rattle.game.specs.Stores.{cells, offsets, lent, stores};
 ghost use Rattle.slp.specs.Finals.{FinalWriteOutcome};
 
+use crate::lent::stores_of;
 use answers::{SlpWritten, written_numbers};
 use game::Game;
 
@@ -35,10 +36,7 @@ pub extern "C" fn slp_write_final(
         presence.now) template.now codes.now metadata.now)
         out.old scratch.old result out.new scratch.new }
 {
-    written_numbers(final_file::write::write_final(
-        out,
-        scratch,
-        g,
+    let stores = stores_of(
         ids,
         starts,
         pres,
@@ -56,5 +54,6 @@ pub extern "C" fn slp_write_final(
         template,
         codes,
         metadata,
-    ))
+    );
+    written_numbers(final_file::write::write_final(out, scratch, g, &stores))
 }

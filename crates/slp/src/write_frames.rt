@@ -3,6 +3,7 @@ ghost use Rattle.std.specs.Prelude.{◌+◌};
 ghost use Rattle.game.specs.Stores.{cells, offsets, lent};
 ghost use Rattle.slp.specs.Outcomes.{AppendOutcome};
 
+use crate::lent::lent_of;
 use answers::{SlpAppended, appended_numbers};
 use append::run::{write_frame, write_frames};
 use game::frames::Frames;
@@ -35,10 +36,7 @@ pub extern "C" fn slp_write_frames(
         (offsets item_offsets.now fod_offsets.now whispy_offsets.now stadium_offsets.now)
         presence.now) a b place out.old result out.new }
 {
-    appended_numbers(write_frames(
-        out,
-        place,
-        f,
+    let lent = lent_of(
         ids,
         starts,
         pres,
@@ -53,9 +51,8 @@ pub extern "C" fn slp_write_frames(
         whispy_offsets,
         stadium_offsets,
         presence,
-        a,
-        b,
-    ))
+    );
+    appended_numbers(write_frames(out, place, f, &lent, a, b))
 }
 
 #[unsafe(no_mangle)]
@@ -85,10 +82,7 @@ pub extern "C" fn slp_write_frame(
         (offsets item_offsets.now fod_offsets.now whispy_offsets.now stadium_offsets.now)
         presence.now) i (i + 1) place out.old result out.new }
 {
-    appended_numbers(write_frame(
-        out,
-        place,
-        f,
+    let lent = lent_of(
         ids,
         starts,
         pres,
@@ -103,6 +97,6 @@ pub extern "C" fn slp_write_frame(
         whispy_offsets,
         stadium_offsets,
         presence,
-        i,
-    ))
+    );
+    appended_numbers(write_frame(out, place, f, &lent, i))
 }

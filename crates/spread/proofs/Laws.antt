@@ -4,7 +4,7 @@ use mathlib.Core.Path.{◌≡◌, refl, sym, ap, ap₂, ◌∙◌}
 use mathlib.Core.Bool.{Bool, true, false}
 use mathlib.Core.List.{List, [], ◌∷◌, ◌++◌, append_assoc, append-nil}
 use Prim.Native.Nat.{ℕ, zero, suc, ◌+◌, ◌-◌, ◌*◌, ◌≤◌, ◌<◌}
-use native.Mathlib.Nat.{add-zero, suc-mul}
+use native.Mathlib.Nat.{add-zero}
 use native.Mathlib.Numerals.{add-one}
 use native.Mathlib.Omega.{arith}
 use lib.ListN.{length, get_or, take, length-append}
@@ -269,24 +269,23 @@ module _ (h : Head) (ids : List ℕ) (i : ℕ) (ws cells : List ℕ) (stride fir
         (λ t l. rw take-length (sym (record_parts (head_on h (get_or ids (i + t) 0)) ws cells stride (first + t))));
   }
 
-  pub records_step : {out now after : List ℕ} (places : List ℕ) (at off k x q w : ℕ) → Turn ws cells stride (first + 7) k → 0 < k → k ≤ length ws
-      → x ≡ first + k * stride → q ≡ off + (length (head_bytes h) + sum (take k ws)) → w ≡ get_or ws (k - 1) 0
+  pub records_step : {out now after : List ℕ} (places : List ℕ) (at off k q w : ℕ) → Turn ws cells stride (first + 7) k → 0 < k → k ≤ length ws
+      → q ≡ off + (length (head_bytes h) + sum (take k ws)) → w ≡ get_or ws (k - 1) 0
       → Rooms out (place_at places at off) (record_at h ids i ws cells stride first)
       → Behinds out (place_at places at off) (record_at h ids i ws cells stride first) now (begun k)
-      → Strewn now after (place_at places at (q - 4)) (cell_at cells (x - stride)) 8
+      → Strewn now after (place_at places at (q - 4)) (cell_at cells (first + (k - 1) * stride)) 8
       → Behinds out (place_at places at off) (record_at h ids i ws cells stride first) after (begun (k - 1))
-  records_step places at off k x q w t some few ex eq ew r b s =
+  records_step places at off k q w t some few eq ew r b s =
       let room = head_room h in
-      let tail : (j : ℕ) → begun k j ≡ begun (k - 1) j ++ be w (get_or cells (x - stride + j) 0) = λ j.
+      let tail : (j : ℕ) → begun k j ≡ begun (k - 1) j ++ be w (get_or cells (first + (k - 1) * stride + j) 0) = λ j.
       let e : k ≡ suc (k - 1) = omega arith in
-      let m = suc-mul (k - 1) stride in
-      let here : first + j + (k - 1) * stride ≡ x - stride + j = omega (arith, t.index) in
+      let here : first + j + (k - 1) * stride ≡ first + (k - 1) * stride + j = omega arith in
       ap (λ (l : ℕ). head_at h ids i j ++ cells_bytes (take l ws) cells stride (first + j)) e
       ∙ ap (λ (l : List ℕ). head_at h ids i j ++ l) (cells_snoc stride ws cells (first + j) (k - 1) (omega arith) ∙ ap₂ (λ (a c : ℕ). cells_bytes (take (k - 1) ws) cells stride (first + j) ++ be a (get_or cells c 0)) (sym ew) here)
-      ∙ sym (append_assoc (head_at h ids i j) (cells_bytes (take (k - 1) ws) cells stride (first + j)) (be w (get_or cells (x - stride + j) 0)))
+      ∙ sym (append_assoc (head_at h ids i j) (cells_bytes (take (k - 1) ws) cells stride (first + j)) (be w (get_or cells (first + (k - 1) * stride + j) 0)))
       in
       let long = length_begun (k - 1) in
-      behinds_step (begun k) (λ j. get_or cells (x - stride + j) 0) w (place_at places at (q - 4))
+      behinds_step (begun k) (λ j. get_or cells (first + (k - 1) * stride + j) 0) w (place_at places at (q - 4))
       (omega (arith, t.narrow)) (λ j l. omega (arith, long j))
       (λ j l. omega (arith, long j, t.total, place_is places at off j, place_is places at (q - 4) j))
       (λ j u l m. omega (arith, long j, record_at_lem j, t.total, t.within, r.apart j u l m))

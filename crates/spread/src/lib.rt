@@ -1,7 +1,7 @@
 // The records of eight rows that follow each other, each at a place of its own, column by column: a column's eight cells stand together in its store.
 #![tactic(auto)]
 
-ghost use Rattle.std.specs.Prelude.{◌≡◌, [], ◌∷◌, ◌+◌, ◌≤◌, length};
+ghost use Rattle.std.specs.Prelude.{◌≡◌, ◌+◌, ◌≤◌, length};
 ghost use Rattle.layout.specs.Columns.{sum};
 ghost use Rattle.record.specs.Record.{player_bytes};
 ghost use Rattle.record.specs.Inner.{InStore};
@@ -9,56 +9,27 @@ ghost use Rattle.spread.specs.Inner.{Reach, Rooms, Sown, Strewn, cell_at, head_a
 
 use record::{Head, head_len};
 
-// Eight cells as four bytes each, `off` behind the eight places that the table has from i on.
+// Eight cells as four bytes each, `off` behind the eight places that the table has from i on. Inlined: a call for each column would cost more than the column.
+#[inline(always)]
 fn put_column(out: &mut [u8], places: &[usize], i: usize, off: usize, cells: &[u32], first: usize)
     requires { (first + 8 ≤ length cells.now) × (i + 8 ≤ length places.now) × Reach out.old places.now i (off + 4) }
     ensures { Strewn out.old out.new (place_at places.now i off) (cell_at cells.now first) 8 }
 {
-    let mut t: usize = 0;
-    while t < 8 {
+    for t in 0..8 {
         let p = places[i + t] + off;
         wire::put_u32(out, p, cells[first + t]);
-        t += 1;
     }
 }
 
-// Eight ids in the same way. Not `put_column` again: a function that is called once is inlined, and a call for each column would cost more than the column.
-fn put_ids(out: &mut [u8], places: &[usize], i: usize, off: usize, ids: &[u32], j: usize)
-    requires { (j + 8 ≤ length ids.now) × (i + 8 ≤ length places.now) × Reach out.old places.now i (off + 4) }
-    ensures { Strewn out.old out.new (place_at places.now i off) (cell_at ids.now j) 8 }
+// The same bytes at such places. Inlined, since a caller knows how many they are.
+#[inline(always)]
+fn put_same(out: &mut [u8], places: &[usize], i: usize, off: usize, bytes: &[u8])
+    requires { (i + 8 ≤ length places.now) × Reach out.old places.now i (off + length bytes.now) }
+    ensures { Strewn out.old out.new (place_at places.now i off) (λ t. bytes.now) 8 }
 {
-    let mut t: usize = 0;
-    while t < 8 {
+    for t in 0..8 {
         let p = places[i + t] + off;
-        wire::put_u32(out, p, ids[j + t]);
-        t += 1;
-    }
-}
-
-// The same byte at such places.
-fn put_codes(out: &mut [u8], places: &[usize], i: usize, off: usize, code: u8)
-    requires { (i + 8 ≤ length places.now) × Reach out.old places.now i (off + 1) }
-    ensures { Strewn out.old out.new (place_at places.now i off) (λ t. code ∷ []) 8 }
-{
-    let mut t: usize = 0;
-    while t < 8 {
-        let p = places[i + t] + off;
-        wire::put_u8(out, p, code);
-        t += 1;
-    }
-}
-
-// The same two bytes.
-fn put_pairs(out: &mut [u8], places: &[usize], i: usize, off: usize, a: u8, b: u8)
-    requires { (i + 8 ≤ length places.now) × Reach out.old places.now i (off + 2) }
-    ensures { Strewn out.old out.new (place_at places.now i off) (λ t. a ∷ b ∷ []) 8 }
-{
-    let mut t: usize = 0;
-    while t < 8 {
-        let p = places[i + t] + off;
-        let q = wire::put_u8(out, p, a);
-        wire::put_u8(out, q, b);
-        t += 1;
+        wire::put_bytes(out, p, bytes);
     }
 }
 
@@ -68,7 +39,7 @@ fn put_players(out: &mut [u8], places: &[usize], i: usize, off: usize, h: Head)
     ensures { Strewn out.old out.new (place_at places.now i off) (λ t. player_bytes h) 8 }
 {
     if h.player {
-        put_pairs(out, places, i, off, h.port, h.follower);
+        put_same(out, places, i, off, &[h.port, h.follower]);
     }
 }
 
@@ -77,8 +48,8 @@ fn put_heads(out: &mut [u8], places: &[usize], i: usize, off: usize, h: Head, id
     requires { (j + 8 ≤ length ids.now) × (i + 8 ≤ length places.now) × Rooms out.old (place_at places.now i off) (head_at h ids.now j) }
     ensures { Strewn out.old out.new (place_at places.now i off) (head_at h ids.now j) 8 }
 {
-    put_codes(out, places, i, off, h.code);
-    put_ids(out, places, i, off + 1, ids, j);
+    put_same(out, places, i, off, &[h.code]);
+    put_column(out, places, i, off + 1, ids, j);
     put_players(out, places, i, off + 5, h);
 }
 
@@ -108,12 +79,8 @@ pub fn put_records(
 {
     let end = off + (head_len(h) + bytes);
     let mut q = end;
-    let mut k = widths.len();
-    let mut x = first + k * stride;
-    while 0 < k {
-        k -= 1;
-        x -= stride;
-        put_column(out, places, i, q - 4, cells, x);
+    for k in (0..widths.len()).rev() {
+        put_column(out, places, i, q - 4, cells, first + k * stride);
         q -= wire::wide(widths[k]);
     }
     put_heads(out, places, i, off, h, ids, j);

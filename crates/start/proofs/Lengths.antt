@@ -1,33 +1,35 @@
 -- The laws of the block's length.
 -- Assumes nothing.
-use mathlib.Core.Path.{◌≡◌, refl, sym, ◌∙◌}
+use mathlib.Core.Path.{◌≡◌, refl, sym}
 use mathlib.Core.Bool.{Bool, true, false, cond, ◌&&◌}
 use mathlib.Core.List.{List, [], ◌∷◌}
-use Prim.Native.Nat.{ℕ, zero, suc, ◌≤◌}
+use Prim.Native.Nat.{ℕ, zero, suc, ◌+◌, ◌≤◌, ◌<◌}
+use native.Mathlib.Numerals.{add-one}
 use native.Mathlib.Omega.{arith}
 use lib.Dec.{leb}
-use lib.ListN.{get_or}
+use lib.ListN.{length, get_or, drop, drop_of_length-le}
+use lib.Seq.{drop-cons}
 use borrow.Author.Tests.{leb-true}
 use Rattle.format.specs.declared.version.Version.{Version}
 use Rattle.start.specs.declared.gate.Gate.{Gate}
 use Rattle.start.specs.Gate.{gate, gates, reaches}
 use Rattle.start.specs.Length.{reached, length_of}
 
--- ---- a gate is reached, or passed; `on` is the code's answer to its test
-module _ (v : Version) (g : Gate) (gs : List Gate) where
-  pub is_reached : (n : ℕ) → n ≡ g.bytes → (on : Bool) → on ≡ reaches v g → on ≡ true → n ≡ reached v (g ∷ gs)
+-- ---- a search through the gates: r is what those from index k on say
+module _ (v : Version) (gs : List Gate) (k r : ℕ) where
+  -- the gate at k is reached, or passed
+  pub is_reached : (d : Gate) → k < length gs → reaches v (get_or gs k d) ≡ true → r ≡ reached v (drop k gs) → (get_or gs k d).bytes ≡ r
   unfolding reached
-  is_reached n h on asked e = rw (sym asked ∙ e) h
+  is_reached d h on q = sym (rw (drop-cons gs k d h, on) at q)
 
-  pub is_passed : (on : Bool) → on ≡ reaches v g → on ≡ false → (r : ℕ) → r ≡ reached v gs → r ≡ reached v (g ∷ gs)
+  pub is_passed : (d : Gate) → k < length gs → reaches v (get_or gs k d) ≡ false → r ≡ reached v (drop k gs) → r ≡ reached v (drop (k + 1) gs)
   unfolding reached
-  is_passed on asked e r h = rw (sym asked ∙ e) h
+  is_passed d h off q = rw add-one (rw (drop-cons gs k d h, off) at q)
 
-pub before_all : (v : Version) → 320 ≡ reached v []
-unfolding reached
-before_all v = refl
-
-pub ruleset gates-asked = (is_reached, is_passed, before_all)
+  -- and there are no more
+  pub all_passed : length gs ≤ k → r ≡ reached v (drop k gs) → 320 ≡ r
+  unfolding reached
+  all_passed h q = sym (rw (drop_of_length-le gs h) at q)
 
 -- ---- a version that reaches a gate has a block of the gate's length at least, and every version one of 320
 

@@ -20,7 +20,7 @@ use Rattle.game.specs.declared.start.MatchTail.{MatchTail}
 use Rattle.game.specs.declared.start.MatchTail.TheVariants.{Cleared, Kept}
 use Rattle.game.specs.MatchTails.{match_tail_of}
 use Rattle.game.specs.declared.start.Start.{Start}
-use Rattle.patch.specs.Patch.{Patch, patch, patched}
+use Rattle.patch.specs.Patch.{Patch, patch}
 use Rattle.patch.specs.Field.{text, zero_filled, zero_inside, read_text, read_at}
 use Rattle.patch.proofs.Positions.{Misses, misses_append, misses_kept, Clear, part_inside, Fills, fills_after, fills_before, fills_kept}
 use Rattle.patch.proofs.Viewed.{filled_within, fills_text, read_filled, read_further}

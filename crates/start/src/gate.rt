@@ -67,6 +67,18 @@ impl Gate {
         bytes: 760,
     };
 
+    pub(crate) const NEWEST_FIRST: [Gate; 9] = [
+        Gate::MATCH,
+        Gate::LANGUAGE,
+        Gate::SUID,
+        Gate::NETPLAY,
+        Gate::SCENE,
+        Gate::FROZEN,
+        Gate::PAL,
+        Gate::TAG,
+        Gate::UCF,
+    ];
+
     // Whether v writes the fields.
     pub fn reached(self, v: Version) -> bool
         ensures { result ≡ reaches v self }

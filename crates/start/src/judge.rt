@@ -43,14 +43,7 @@ fn is_too_long(v: Version, g: Gate, limit: usize, t: Text) -> bool
 fn has_zero(bytes: &[u8]) -> bool
     ensures { result ≡ one_of (map is_zero bytes.now) }
 {
-    let mut i = 0;
-    while i < bytes.len() {
-        if bytes[i] == 0 {
-            return true;
-        }
-        i += 1;
-    }
-    false
+    bytes.contains(&0)
 }
 
 // Whether one of the first n bytes is zero, or of all where there are fewer.

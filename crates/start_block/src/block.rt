@@ -15,6 +15,7 @@ use game::start::{Match, MatchTail, Start, Text};
 use patch::{flag_of, put_filled, put_numbers, put_zeros};
 use start::gate::Gate;
 
+// Offsets and widths in lists of their own, as `put_numbers` takes them.
 const GAME_OFFSETS: [usize; 11] = [0, 1, 2, 10, 12, 15, 16, 18, 20, 52, 316];
 
 const GAME_WIDTHS: [usize; 11] = [1, 1, 1, 1, 1, 1, 1, 2, 4, 4, 4];

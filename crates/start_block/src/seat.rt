@@ -80,10 +80,8 @@ pub fn put_seats(block: &mut [u8], v: Version, seats: [Seat; 4])
     requires { (length_of v ≤ length block.old) × (one_of (map (bad_seat v) seats) ≡ false) }
     ensures { Patched block.old block.new (seats_fields v 0 seats) }
 {
-    let mut n = 0;
-    while n < 4 {
+    for n in 0..4 {
         let p = seats[n];
         put_seat(block, v, n, p);
-        n += 1;
     }
 }

@@ -3,7 +3,7 @@ ghost use Rattle.std.specs.Prelude.{◌≡◌, ◌<◌, pos, length, get_or};
 ghost use Rattle.std.specs.Int.{w32};
 ghost use Rattle.std.proofs.Common.{to_z};
 ghost use Rattle.frames.specs.Inner.{Placed};
-ghost use Rattle.game.specs.Stores.{cells, offsets, lent};
+ghost use Rattle.game.specs.Held.{lent_in, offsets_in};
 ghost use Rattle.transpose.specs.Frame.{no_range, range_at, no_frame, frame_of};
 ghost use Rattle.transpose.specs.Inner.{Showable};
 ghost use Rattle.transpose.specs.Answers.{unless_refused, frame_row};
@@ -11,10 +11,12 @@ ghost use Rattle.transpose.specs.Answers.{unless_refused, frame_row};
 use super::fetch::{frame_end_at, frame_start_at, version_shown};
 use super::judge::place_refused;
 use super::ports::ports_at;
+use format::refusal::number_in;
 use format::signed::signed32;
 use format::version::Version;
 use frames::judge::judge;
 use game::frames::Frames;
+use game::stores::Lent;
 use layout::columns::Family;
 use rows::post::Post;
 use rows::pre::Pre;
@@ -121,37 +123,30 @@ fn count_shown(count: usize, n: u8) -> usize
 }
 
 // The frame's row, or zeros where it is refused (n is not 0): one literal for both, since a second would take its room on the stack.
-fn frame_at(
-    f: Frames,
-    ids: &[u32],
-    starts: &[u32],
-    pres: &[u32],
-    posts: &[u32],
-    ends: &[u32],
-    item_offsets: &[u32],
-    fod_offsets: &[u32],
-    whispy_offsets: &[u32],
-    stadium_offsets: &[u32],
-    presence: &[u8],
-    index: usize,
-    n: u8,
-) -> Frame
-    requires { n ≡ 0 → Showable f ids.now starts.now pres.now posts.now ends.now
-        (offsets item_offsets.now fod_offsets.now whispy_offsets.now stadium_offsets.now) index }
-    ensures { result ≡ unless_refused n (frame_of f ids.now starts.now pres.now posts.now ends.now
-        (offsets item_offsets.now fod_offsets.now whispy_offsets.now stadium_offsets.now) presence.now index) no_frame }
+fn frame_at(f: Frames, lent: &Lent<'_>, index: usize, n: u8) -> Frame
+    requires { n ≡ 0 → Showable f lent.now.cells.ids.now lent.now.cells.starts.now lent.now.cells.pres.now lent.now.cells.posts.now lent.now.cells.ends.now
+        (offsets_in lent.now.offsets) index }
+    ensures { result ≡ unless_refused n (frame_of f lent.now.cells.ids.now lent.now.cells.starts.now lent.now.cells.pres.now lent.now.cells.posts.now lent.now.cells.ends.now
+        (offsets_in lent.now.offsets) lent.now.presence.now index) no_frame }
 {
-    let id = id_shown(ids, index, n);
-    let ports = ports_at(f, pres, posts, presence, index, n);
-    let start = frame_start_at(f, starts, index, n);
-    let end = frame_end_at(f, ends, index, n);
-    let items = range_shown(f, Family::Item, item_offsets, index, n);
-    let fod_platforms = range_shown(f, Family::FodPlatform, fod_offsets, index, n);
-    let dreamland_whispys = range_shown(f, Family::DreamlandWhispy, whispy_offsets, index, n);
+    let id = id_shown(lent.cells.ids, index, n);
+    let ports = ports_at(
+        f,
+        lent.cells.pres,
+        lent.cells.posts,
+        lent.presence,
+        index,
+        n,
+    );
+    let start = frame_start_at(f, lent.cells.starts, index, n);
+    let end = frame_end_at(f, lent.cells.ends, index, n);
+    let items = range_shown(f, Family::Item, lent.offsets.items, index, n);
+    let fod_platforms = range_shown(f, Family::FodPlatform, lent.offsets.fods, index, n);
+    let dreamland_whispys = range_shown(f, Family::DreamlandWhispy, lent.offsets.whispys, index, n);
     let stadium_transformations = range_shown(
         f,
         Family::StadiumTransformation,
-        stadium_offsets,
+        lent.offsets.stadiums,
         index,
         n,
     );
@@ -171,64 +166,11 @@ fn frame_at(
     }
 }
 
-pub fn frame_row(
-    f: Frames,
-    ids: &[u32],
-    starts: &[u32],
-    pres: &[u32],
-    posts: &[u32],
-    ends: &[u32],
-    items: &[u32],
-    fods: &[u32],
-    whispys: &[u32],
-    stadiums: &[u32],
-    item_offsets: &[u32],
-    fod_offsets: &[u32],
-    whispy_offsets: &[u32],
-    stadium_offsets: &[u32],
-    presence: &[u8],
-    index: usize,
-) -> FrameRow
-    ensures { result ≡ frame_row f (lent
-        (cells ids.now starts.now pres.now posts.now ends.now
-        items.now fods.now whispys.now stadiums.now)
-        (offsets item_offsets.now fod_offsets.now whispy_offsets.now stadium_offsets.now)
-        presence.now) index }
+pub fn frame_row(f: Frames, lent: &Lent<'_>, index: usize) -> FrameRow
+    ensures { result ≡ frame_row f (lent_in lent.now) index }
 {
-    let judged = judge(
-        f,
-        ids,
-        starts,
-        pres,
-        posts,
-        ends,
-        items,
-        fods,
-        whispys,
-        stadiums,
-        item_offsets,
-        fod_offsets,
-        whispy_offsets,
-        stadium_offsets,
-        presence,
-        0,
-        0,
-    );
+    let judged = number_in(judge(f, lent, 0, 0));
     let n = place_refused(judged, f, Family::FrameStart, 0, index);
-    let row = frame_at(
-        f,
-        ids,
-        starts,
-        pres,
-        posts,
-        ends,
-        item_offsets,
-        fod_offsets,
-        whispy_offsets,
-        stadium_offsets,
-        presence,
-        index,
-        n,
-    );
+    let row = frame_at(f, lent, index, n);
     FrameRow { refused: n, row }
 }

@@ -1,6 +1,6 @@
 // The public calls for the row of one record: each judges all that is lent, and answers a number, 0 where the row is given, beside the row.
 ghost use Rattle.std.specs.Prelude.{◌≡◌};
-ghost use Rattle.game.specs.Stores.{cells, offsets, lent};
+ghost use Rattle.game.specs.Held.{lent_in};
 ghost use Rattle.transpose.specs.Answers.{pre_row, post_row, item_row, fod_platform_row, dreamland_whispy_row, stadium_transformation_row};
 
 use super::fetch::{
@@ -8,8 +8,10 @@ use super::fetch::{
     stadium_transformation_at,
 };
 use super::judge::place_refused;
+use format::refusal::number_in;
 use frames::judge::judge;
 use game::frames::Frames;
+use game::stores::Lent;
 use layout::columns::Family;
 use rows::item::Item;
 use rows::post::Post;
@@ -58,294 +60,62 @@ pub struct StadiumTransformationRow {
     pub row: StadiumTransformation,
 }
 
-pub fn pre_row(
-    f: Frames,
-    ids: &[u32],
-    starts: &[u32],
-    pres: &[u32],
-    posts: &[u32],
-    ends: &[u32],
-    items: &[u32],
-    fods: &[u32],
-    whispys: &[u32],
-    stadiums: &[u32],
-    item_offsets: &[u32],
-    fod_offsets: &[u32],
-    whispy_offsets: &[u32],
-    stadium_offsets: &[u32],
-    presence: &[u8],
-    slot: usize,
-    index: usize,
-) -> PreRow
-    ensures { result ≡ pre_row f (lent
-        (cells ids.now starts.now pres.now posts.now ends.now
-        items.now fods.now whispys.now stadiums.now)
-        (offsets item_offsets.now fod_offsets.now whispy_offsets.now stadium_offsets.now)
-        presence.now) slot index }
+pub fn pre_row(f: Frames, lent: &Lent<'_>, slot: usize, index: usize) -> PreRow
+    ensures { result ≡ pre_row f (lent_in lent.now) slot index }
 {
-    let judged = judge(
-        f,
-        ids,
-        starts,
-        pres,
-        posts,
-        ends,
-        items,
-        fods,
-        whispys,
-        stadiums,
-        item_offsets,
-        fod_offsets,
-        whispy_offsets,
-        stadium_offsets,
-        presence,
-        0,
-        0,
-    );
+    let judged = number_in(judge(f, lent, 0, 0));
     let n = place_refused(judged, f, Family::Pre, slot, index);
-    let mark = mark_at(f, presence, slot, index, n);
-    let row = pre_at(f, pres, slot, index, mark, n);
+    let mark = mark_at(f, lent.presence, slot, index, n);
+    let row = pre_at(f, lent.cells.pres, slot, index, mark, n);
     PreRow { refused: n, row }
 }
 
-pub fn post_row(
-    f: Frames,
-    ids: &[u32],
-    starts: &[u32],
-    pres: &[u32],
-    posts: &[u32],
-    ends: &[u32],
-    items: &[u32],
-    fods: &[u32],
-    whispys: &[u32],
-    stadiums: &[u32],
-    item_offsets: &[u32],
-    fod_offsets: &[u32],
-    whispy_offsets: &[u32],
-    stadium_offsets: &[u32],
-    presence: &[u8],
-    slot: usize,
-    index: usize,
-) -> PostRow
-    ensures { result ≡ post_row f (lent
-        (cells ids.now starts.now pres.now posts.now ends.now
-        items.now fods.now whispys.now stadiums.now)
-        (offsets item_offsets.now fod_offsets.now whispy_offsets.now stadium_offsets.now)
-        presence.now) slot index }
+pub fn post_row(f: Frames, lent: &Lent<'_>, slot: usize, index: usize) -> PostRow
+    ensures { result ≡ post_row f (lent_in lent.now) slot index }
 {
-    let judged = judge(
-        f,
-        ids,
-        starts,
-        pres,
-        posts,
-        ends,
-        items,
-        fods,
-        whispys,
-        stadiums,
-        item_offsets,
-        fod_offsets,
-        whispy_offsets,
-        stadium_offsets,
-        presence,
-        0,
-        0,
-    );
+    let judged = number_in(judge(f, lent, 0, 0));
     let n = place_refused(judged, f, Family::Post, slot, index);
-    let mark = mark_at(f, presence, slot, index, n);
-    let row = post_at(f, posts, slot, index, mark, n);
+    let mark = mark_at(f, lent.presence, slot, index, n);
+    let row = post_at(f, lent.cells.posts, slot, index, mark, n);
     PostRow { refused: n, row }
 }
 
-pub fn item_row(
-    f: Frames,
-    ids: &[u32],
-    starts: &[u32],
-    pres: &[u32],
-    posts: &[u32],
-    ends: &[u32],
-    items: &[u32],
-    fods: &[u32],
-    whispys: &[u32],
-    stadiums: &[u32],
-    item_offsets: &[u32],
-    fod_offsets: &[u32],
-    whispy_offsets: &[u32],
-    stadium_offsets: &[u32],
-    presence: &[u8],
-    index: usize,
-) -> ItemRow
-    ensures { result ≡ item_row f (lent
-        (cells ids.now starts.now pres.now posts.now ends.now
-        items.now fods.now whispys.now stadiums.now)
-        (offsets item_offsets.now fod_offsets.now whispy_offsets.now stadium_offsets.now)
-        presence.now) index }
+pub fn item_row(f: Frames, lent: &Lent<'_>, index: usize) -> ItemRow
+    ensures { result ≡ item_row f (lent_in lent.now) index }
 {
-    let judged = judge(
-        f,
-        ids,
-        starts,
-        pres,
-        posts,
-        ends,
-        items,
-        fods,
-        whispys,
-        stadiums,
-        item_offsets,
-        fod_offsets,
-        whispy_offsets,
-        stadium_offsets,
-        presence,
-        0,
-        0,
-    );
+    let judged = number_in(judge(f, lent, 0, 0));
     let n = place_refused(judged, f, Family::Item, 0, index);
-    let row = item_at(f, items, index, n);
+    let row = item_at(f, lent.cells.items, index, n);
     ItemRow { refused: n, row }
 }
 
-pub fn fod_platform_row(
-    f: Frames,
-    ids: &[u32],
-    starts: &[u32],
-    pres: &[u32],
-    posts: &[u32],
-    ends: &[u32],
-    items: &[u32],
-    fods: &[u32],
-    whispys: &[u32],
-    stadiums: &[u32],
-    item_offsets: &[u32],
-    fod_offsets: &[u32],
-    whispy_offsets: &[u32],
-    stadium_offsets: &[u32],
-    presence: &[u8],
-    index: usize,
-) -> FodPlatformRow
-    ensures { result ≡ fod_platform_row f (lent
-        (cells ids.now starts.now pres.now posts.now ends.now
-        items.now fods.now whispys.now stadiums.now)
-        (offsets item_offsets.now fod_offsets.now whispy_offsets.now stadium_offsets.now)
-        presence.now) index }
+pub fn fod_platform_row(f: Frames, lent: &Lent<'_>, index: usize) -> FodPlatformRow
+    ensures { result ≡ fod_platform_row f (lent_in lent.now) index }
 {
-    let judged = judge(
-        f,
-        ids,
-        starts,
-        pres,
-        posts,
-        ends,
-        items,
-        fods,
-        whispys,
-        stadiums,
-        item_offsets,
-        fod_offsets,
-        whispy_offsets,
-        stadium_offsets,
-        presence,
-        0,
-        0,
-    );
+    let judged = number_in(judge(f, lent, 0, 0));
     let n = place_refused(judged, f, Family::FodPlatform, 0, index);
-    let row = fod_platform_at(f, fods, index, n);
+    let row = fod_platform_at(f, lent.cells.fods, index, n);
     FodPlatformRow { refused: n, row }
 }
 
-pub fn dreamland_whispy_row(
-    f: Frames,
-    ids: &[u32],
-    starts: &[u32],
-    pres: &[u32],
-    posts: &[u32],
-    ends: &[u32],
-    items: &[u32],
-    fods: &[u32],
-    whispys: &[u32],
-    stadiums: &[u32],
-    item_offsets: &[u32],
-    fod_offsets: &[u32],
-    whispy_offsets: &[u32],
-    stadium_offsets: &[u32],
-    presence: &[u8],
-    index: usize,
-) -> DreamlandWhispyRow
-    ensures { result ≡ dreamland_whispy_row f (lent
-        (cells ids.now starts.now pres.now posts.now ends.now
-        items.now fods.now whispys.now stadiums.now)
-        (offsets item_offsets.now fod_offsets.now whispy_offsets.now stadium_offsets.now)
-        presence.now) index }
+pub fn dreamland_whispy_row(f: Frames, lent: &Lent<'_>, index: usize) -> DreamlandWhispyRow
+    ensures { result ≡ dreamland_whispy_row f (lent_in lent.now) index }
 {
-    let judged = judge(
-        f,
-        ids,
-        starts,
-        pres,
-        posts,
-        ends,
-        items,
-        fods,
-        whispys,
-        stadiums,
-        item_offsets,
-        fod_offsets,
-        whispy_offsets,
-        stadium_offsets,
-        presence,
-        0,
-        0,
-    );
+    let judged = number_in(judge(f, lent, 0, 0));
     let n = place_refused(judged, f, Family::DreamlandWhispy, 0, index);
-    let row = dreamland_whispy_at(f, whispys, index, n);
+    let row = dreamland_whispy_at(f, lent.cells.whispys, index, n);
     DreamlandWhispyRow { refused: n, row }
 }
 
 pub fn stadium_transformation_row(
     f: Frames,
-    ids: &[u32],
-    starts: &[u32],
-    pres: &[u32],
-    posts: &[u32],
-    ends: &[u32],
-    items: &[u32],
-    fods: &[u32],
-    whispys: &[u32],
-    stadiums: &[u32],
-    item_offsets: &[u32],
-    fod_offsets: &[u32],
-    whispy_offsets: &[u32],
-    stadium_offsets: &[u32],
-    presence: &[u8],
+    lent: &Lent<'_>,
     index: usize,
 ) -> StadiumTransformationRow
-    ensures { result ≡ stadium_transformation_row f (lent
-        (cells ids.now starts.now pres.now posts.now ends.now
-        items.now fods.now whispys.now stadiums.now)
-        (offsets item_offsets.now fod_offsets.now whispy_offsets.now stadium_offsets.now)
-        presence.now) index }
+    ensures { result ≡ stadium_transformation_row f (lent_in lent.now) index }
 {
-    let judged = judge(
-        f,
-        ids,
-        starts,
-        pres,
-        posts,
-        ends,
-        items,
-        fods,
-        whispys,
-        stadiums,
-        item_offsets,
-        fod_offsets,
-        whispy_offsets,
-        stadium_offsets,
-        presence,
-        0,
-        0,
-    );
+    let judged = number_in(judge(f, lent, 0, 0));
     let n = place_refused(judged, f, Family::StadiumTransformation, 0, index);
-    let row = stadium_transformation_at(f, stadiums, index, n);
+    let row = stadium_transformation_at(f, lent.cells.stadiums, index, n);
     StadiumTransformationRow { refused: n, row }
 }

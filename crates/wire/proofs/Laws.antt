@@ -4,15 +4,16 @@ use mathlib.Core.Path.{◌≡◌, refl, sym, ap, ap₂, ◌∙◌}
 use mathlib.Core.Bool.{Bool, true, false, cond}
 use mathlib.Core.List.{List, [], ◌∷◌, ◌++◌, append_assoc}
 use Prim.Native.Nat.{ℕ, zero, suc, ◌+◌, ◌-◌, ◌*◌, ◌/◌, ◌%◌, ◌^◌, ◌≤◌, ◌<◌}
-use native.Mathlib.Nat.{add-zero, add_comm, suc-mul, add-suc, suc-add, mul-suc, mul-one, mod-one, mod-eq_of_lt, add-mul, mul_assoc, add_assoc, zero-mul, zero-add, sub-zero, sub-eq-zero_of_le, pow-suc, pow-succ', pow-le-pow_right, one-le-pow, lt_of_lt_of_le}
+use native.Mathlib.Nat.{add-zero, add_comm, suc-mul, add-suc, suc-add, mul-suc, mul-one, mod-one, div-one, mod-eq_of_lt, add-mul, mul_assoc, add_assoc, zero-mul, zero-add, pow-suc, pow-succ', pow-le-pow_right, one-le-pow, lt_of_lt_of_le}
 use lib.Arith.{mod-mul, digits_lt}
 use lib.Dec.{lit<}
 use lib.Pow.{pow-add}
-use native.Mathlib.Numerals.{add-one, sub-one}
+use native.Mathlib.Numerals.{add-one}
 use native.Mathlib.Omega.{arith}
-use lib.ListN.{length, take, drop, set, get_or, length-set, length-append, get_or-append}
-use lib.Seq.{sets, sets-eq, set_comm, set-set, drop-cons, drop_at, length-take-le, take-append_seam, ext_get_or, get_or_at, get_or-set_same, get_or-set_other}
+use lib.ListN.{length, length-take, take, drop, set, get_or, drop_of_length-le, length-set, length-append, get_or-append}
+use lib.Seq.{sets, sets-eq, set_comm, set-set, drop-cons, drop_at, length-take-le, take_all, get_or-take, get_or-drop, take-append_seam, ext_get_or, get_or_at, get_or-set_same, get_or-set_other}
 use native.Mathlib.Decide.{dec_lt, ℕ_discrete}
+use Rattle.std.specs.Int.{w32, to_be_bytes}
 use Rattle.wire.specs.Wire.{be, more, number, splice, part, ranged, keep, tabulate}
 
 pub splice_nil : (xs : List ℕ) (at : ℕ) → splice xs at [] ≡ xs
@@ -86,22 +87,23 @@ unfolding be
 length_be zero v = refl
 length_be (suc w) v = ap suc (length_be w v)
 
--- a loop that puts a number's bytes: one turn, and the end
-pub be_step : (w v b : ℕ) → 0 < w → b ≡ v / 256 ^ (w - 1) % 256 → be w v ≡ (b ∷ []) ++ be (w - 1) v
-unfolding be
-be_step zero v b h e = absurd (omega arith)
-be_step (suc w) v b h e = rw (e, sub-one)
-
-pub be_done : (w v : ℕ) → w ≤ 0 → be w v ≡ []
-unfolding be
-be_done zero v h = refl
-be_done (suc w) v h = absurd (omega arith)
-
 -- the low bytes of a number stand last among its bytes
 pub be_low : (k w v : ℕ) → drop k (be (k + w) v) ≡ be w v
 unfolding be
 be_low zero w v = rw zero-add
 be_low (suc k) w v = rw (suc-add k w) (be_low k w v)
+
+-- what the library's `to_be_bytes` gives
+pub be_is : (v : ℕ) → to_be_bytes w32 v ≡ be 4 v
+unfolding be
+be_is v = rw div-one
+
+-- the last of a number's four bytes
+pub be_last : (w v : ℕ) → w ≤ 4 → take (4 - (4 - w)) (drop (4 - w) (be 4 v)) ≡ be w v
+be_last w v h =
+    let e : 4 - w + w ≡ 4 = omega arith in
+    let low : drop (4 - w) (be 4 v) ≡ be w v = rw e at (be_low (4 - w) w v) in
+    rw low (take_all (4 - (4 - w)) (be w v) (rw length_be (omega arith)))
 
 pub pow_8 : (w : ℕ) → 2 ^ (8 * w) ≡ 256 ^ w
 pow_8 zero = refl
@@ -153,20 +155,26 @@ more_be a (suc w) v =
 pub number_be : (w v : ℕ) → v < 256 ^ w → number (be w v) ≡ v
 number_be w v h = more_be 0 w v ∙ rw (zero-mul, zero-add) (mod-eq_of_lt h)
 
--- a loop that reads a number: its start, one turn, and its end; and what it has read is small
-pub get_start : (at width : ℕ) (s : List ℕ) → more 0 (part s (at + 0) (width - 0)) ≡ number (part s at width)
-get_start at width s = rw (add-zero, sub-zero)
+-- a loop over a number's bytes: one turn, and its end; and what it has read is small
+pub get_step : (n i : ℕ) (bytes : List ℕ) → i < length bytes → more (n * 256 + get_or bytes i 0) (drop (i + 1) bytes) ≡ more n (drop i bytes)
+unfolding more
+get_step n i bytes h = rw (drop-cons bytes i 0 h, add-one)
 
-pub get_step : (n i at width : ℕ) (s : List ℕ) → i < width → at + i < length s
-    → more (n * 256 + get_or s (at + i) 0) (part s (at + (i + 1)) (width - (i + 1))) ≡ more n (part s (at + i) (width - i))
-unfolding more part
-get_step n i at width s h k =
-    let e : width - i ≡ suc (width - suc i) = omega arith in
-    rw (drop-cons s (at + i) 0 k, e, add-one, add-suc)
+pub get_done : (n i : ℕ) (bytes : List ℕ) → length bytes ≤ i → n ≡ more n (drop i bytes)
+unfolding more
+get_done n i bytes h = rw (drop_of_length-le bytes h)
 
-pub get_done : (n i p width : ℕ) (s : List ℕ) → width ≤ i → n ≡ more n (part s p (width - i))
-unfolding more part
-get_done n i p width s h = rw (sub-eq-zero_of_le h)
+-- an element of a part
+pub get_in : (s : List ℕ) (at n i : ℕ) → i < n → get_or (take n (drop at s)) i 0 ≡ get_or s (at + i) 0
+get_in s at n i h = get_or-take n (drop at s) i 0 h ∙ get_or-drop at s i 0
+
+pub part_below : (s : List ℕ) (n i : ℕ) → i < length (take n s) → i < n
+part_below s n i h = omega (arith, h, length-take n s)
+
+-- a part by where it begins and ends
+pub part_here : (s : List ℕ) (at n : ℕ) → number (take (at + n - at) (drop at s)) ≡ number (part s at n)
+unfolding part
+part_here s at n = let e : at + n - at ≡ n = omega arith in rw e
 
 pub get_small : (n i : ℕ) → n < 256 ^ i → i < 4 → n < 256 ^ 3
 get_small n i h k = lt_of_lt_of_le h (pow-le-pow_right {n = 256} (lit< tt) {i = i} {j = 3} (omega arith))

@@ -3,12 +3,11 @@
 use mathlib.Core.Path.{◌≡◌, refl, sym, ap, ap₂, ◌∙◌}
 use mathlib.Core.Bool.{Bool, true, false}
 use mathlib.Core.List.{List, [], ◌∷◌, ◌++◌}
-use Prim.Native.Nat.{ℕ, suc, ◌+◌, ◌-◌, ◌/◌, ◌%◌, ◌≤◌, ◌<◌}
-use native.Mathlib.Nat.{add-zero, add_assoc, div-one, sub-zero, sub-eq-zero_of_le}
-use native.Mathlib.Numerals.{add-one, add-two, add-three}
+use Prim.Native.Nat.{ℕ, suc, ◌+◌, ◌-◌, ◌≤◌, ◌<◌}
+use native.Mathlib.Nat.{add-zero, add_assoc, sub-zero, sub-eq-zero_of_le}
 use native.Mathlib.Omega.{arith}
 use lib.ListN.{length, set, take, drop, length-append, length-drop, take-append-drop}
-use lib.Seq.{take_at, drop_at, length-take-le}
+use lib.Seq.{take_at, drop_at, drop-drop, length-take-le}
 use Rattle.wire.specs.Wire.{be, splice, ranged, keep, Room, Wrote}
 use Rattle.wire.proofs.Laws.{splice_nil, length_splice, splice_append, splice_is, splice_behind, length_be, be_low}
 
@@ -31,9 +30,6 @@ wrote_as_byte e w = rw e at w
 
 pub room_byte : {out : List ℕ} {at x y : ℕ} → x ≡ y → Room out at (y ∷ []) → Room out at (x ∷ [])
 room_byte e r = rw e r
-
-pub wrote_width : {before after : List ℕ} {at next w k : ℕ} (v : ℕ) → w ≡ k → Wrote before after at next (be k v) → Wrote before after at next (be w v)
-wrote_width v e x = rw (← e) at x
 
 pub wrote_length : {before after : List ℕ} {at next : ℕ} {bytes : List ℕ} → Wrote before after at next bytes → length after ≡ length before
 wrote_length {before} {at = at} {bytes = bytes} w = ap length w.after_is ∙ length_splice before at bytes
@@ -133,15 +129,15 @@ module _ {first all now after : List ℕ} {at : ℕ} where
   pub behind_done : {before : List ℕ} {mid next : ℕ} → Behind first at all now before → Wrote now after at mid before → next ≡ at + length all → Wrote first after at next all
   behind_done b x e = record { next_is = e; after_is = x.after_is ∙ b.behind }
 
--- bytes stored one by one: two and four of them
-pub wrote_2 : (xs : List ℕ) (at v : ℕ) → Wrote xs (set (set xs at (v / 256 % 256)) (at + 1) (v % 256)) at (at + 2) (be 2 v)
-unfolding splice be
-wrote_2 xs at v = record { next_is = refl; after_is = rw (div-one v, add-one) }
-
-pub wrote_4 : (xs : List ℕ) (at v : ℕ)
-    → Wrote xs (set (set (set (set xs at (v / 16777216 % 256)) (at + 1) (v / 65536 % 256)) (at + 2) (v / 256 % 256)) (at + 3) (v % 256)) at (at + 4) (be 4 v)
-unfolding splice be
-wrote_4 xs at v = record { next_is = refl; after_is = rw (div-one v, add-one, add-two, add-three) }
+-- a part of the output that holds ys in place of what it held
+pub wrote_part : (out held ys : List ℕ) (at : ℕ) → held ≡ ys → at + length ys ≤ length out
+    → Wrote out (take at out ++ (held ++ drop (at + length ys - at) (drop at out))) at (at + length ys) ys
+wrote_part out held ys at same h =
+    let e : at + length ys - at ≡ length ys = omega arith in
+    record {
+      next_is = refl;
+      after_is = rw (same, e, drop-drop) (sym (splice_is out at ys h));
+    }
 
 pub room_be : {out : List ℕ} {at : ℕ} (w v : ℕ) → Room out at (be w v) → at + w ≤ length out
 room_be w v r = rw length_be at r.fits
@@ -155,20 +151,6 @@ room_first_of out xs at n h r = record { fits = rw (length-take-le n xs h) r }
 
 pub wrote_first_of : {a b : List ℕ} {at next : ℕ} (xs : List ℕ) (n : ℕ) → n ≤ length xs → Wrote a b at next (take n xs) → next ≡ at + n
 wrote_first_of {at = at} xs n h w = w.next_is ∙ ap (λ k. at + k) (length-take-le n xs h)
-
--- a byte is its number's lowest, and a number's only byte
-be_one : (v : ℕ) → be 1 v ≡ v % 256 ∷ []
-unfolding be
-be_one v = rw div-one
-
-pub room_one : {out : List ℕ} {at w : ℕ} (v : ℕ) → w ≡ 1 → Room out at (be w v) → Room out at (v % 256 ∷ [])
-room_one v e r = rw (e, be_one v) at r
-
-pub wrote_one : {before after : List ℕ} {at next w : ℕ} (v : ℕ) → w ≡ 1 → Wrote before after at next (v % 256 ∷ []) → Wrote before after at next (be w v)
-wrote_one v e x = rw (e, be_one v) x
-
-pub room_width : {out : List ℕ} {at w k : ℕ} (v : ℕ) → w ≡ k → Room out at (be w v) → Room out at (be k v)
-room_width v e r = rw e at r
 
 -- ---- a loop from i to b: one turn, its end, and room for a turn
 module _ (f : ℕ → List ℕ) (i b : ℕ) where

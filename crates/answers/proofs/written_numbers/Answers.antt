@@ -1,12 +1,11 @@
 use mathlib.Core.Path.{sym, ap}
 use Rattle.answers.specs.Answers.{written}
+use Rattle.answers.proofs.Laws.{written_refused}
 use borrow.Author.Rules.{rules}
 use Rattle.answers.proofs.written_numbers.Goals as goal
 
--- src/answers.rt:106:1
-pub returns-in-File : goal.returns-in-File
-returns-in-File c = sym (ap written c.in-File.is)
+pub returns-in-Ok : goal.returns-in-Ok
+returns-in-Ok c = sym (ap written c.in-Ok.is)
 
--- src/answers.rt:106:1
-pub returns-in-Refused : goal.returns-in-Refused
-returns-in-Refused c = sym (ap written c.in-Refused.is)
+pub returns-in-Err : goal.returns-in-Err
+returns-in-Err c = written_refused c.number.ensures c.in-Err.is

@@ -10,9 +10,8 @@ returns-then-h-ne0 c =
 
 pub in_data-requires : goal.in_data-requires
 in_data-requires c =
-    let t = c in
-    let p = t.parse_head-h in
-    p.ensures.opened (sym p.ensures.refusal_is ∙ t.if-h-ne0.false) _ c.near-n.ensures
+    let p = c.parse_head-h in
+    p.ensures.opened (sym p.ensures.refusal_is ∙ c.if-h-ne0.false) _ c.near-n.ensures
 
 pub parse_head-h-requires : goal.parse_head-h-requires
 parse_head-h-requires c = record { empty = refl }

@@ -10,15 +10,13 @@ returns-then-h-ne0 c =
 
 pub walk_events-done-requires : goal.walk_events-done-requires
 walk_events-done-requires c =
-    let t = c in
-    let p = t.parse_head-h in
-    p.ensures.opened (sym p.ensures.refusal_is ∙ t.if-h-ne0.false) _ c.near-n.ensures
+    let p = c.parse_head-h in
+    p.ensures.opened (sym p.ensures.refusal_is ∙ c.if-h-ne0.false) _ c.near-n.ensures
 
 pub returns : goal.returns
 returns c =
-    let t = c in
-    let h = t.parse_head-h.ensures in
-    let r = h.opened (sym h.refusal_is ∙ t.if-h-ne0.false) _ c.near-n.ensures in
+    let h = c.parse_head-h.ensures in
+    let r = h.opened (sym h.refusal_is ∙ c.if-h-ne0.false) _ c.near-n.ensures in
     ap walk_numbers (c.finish.ensures ∙ walk_is _ _ _ c.walk_events-done.ensures.0 r.stop_is)
 
 pub parse_head-h-requires : goal.parse_head-h-requires

@@ -19,8 +19,7 @@ advanced c = rw c.in-Event.is at c.in_data-last.ensures.1
 pub loop-next-preserved : goal.loop-next-preserved
 loop-next-preserved c =
     let h = advanced c in
-    let s = c in
-    let f = s.args.file.now in
+    let f = c.args.file.now in
     let k : length f - c.loop-next.events ≡ suc (length f - (c.loop-next.events + 1)) = omega arith in
     (omega arith, omega arith, rw k at c.loop-next.invariant.2 ∙ run_event _ _ _ _ _ _ _ _ _ (sym c.in_data-last.ensures.0 ∙ c.in-Event.is))
 

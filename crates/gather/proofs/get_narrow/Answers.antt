@@ -1,6 +1,6 @@
 use mathlib.Core.Path.{◌≡◌, refl, ap, ◌∙◌}
-use mathlib.Core.List.{List, [], ◌∷◌}
-use Prim.Native.Nat.{ℕ, ◌+◌, ◌-◌, ◌%◌, ◌^◌, ◌*◌, ◌≤◌, ◌<◌}
+use mathlib.Core.List.{[], ◌∷◌}
+use Prim.Native.Nat.{ℕ, ◌+◌, ◌%◌, ◌^◌, ◌*◌, ◌≤◌, ◌<◌}
 use native.Mathlib.Nat.{one-mul, one-le-pow, mod-le}
 use native.Mathlib.Omega.{arith}
 use lib.Dec.{lit<}
@@ -16,15 +16,15 @@ shifted : (w : ℕ) → w ≤ 4 → 1 * 2 ^ (8 * w) % 2 ^ 64 ≡ 256 ^ w
 shifted w h = shl_exact 1 (8 * w) 64 (lit< tt) (omega arith) ∙ one-mul (2 ^ (8 * w)) ∙ pow_8 w
 
 pub loop-t-init : goal.loop-t-init
-loop-t-init c = let s = c in (shifted s.args.width s.requires.0, refl, omega arith, down_start _ _ _ _ _ _ _)
+loop-t-init c = (shifted c.args.width c.requires.0, refl, omega arith, down_start _ _ _ _ _ _ _)
 
 -- a turn's place, and where its cell ends
 reach : (c : In-loop-t)
-    → let s = c in get_or s.args.places.now (s.args.i + c.loop-t.t) 0 + (s.args.off + s.args.width) ≤ length s.args.file.now
+    → get_or c.args.places.now (c.args.i + c.loop-t.t) 0 + (c.args.off + c.args.width) ≤ length c.args.file.now
 reach c = c.requires.4 c.loop-t.t c.loop-t-test.true
 
 pub get_four-requires : goal.get_four-requires
-get_four-requires c = let s = c in omega (arith, reach (goal.at.get_four-requires c).In-loop-t, c.loop-t.invariant.1, s.requires.1)
+get_four-requires c = omega (arith, reach (goal.at.get_four-requires c).In-loop-t, c.loop-t.invariant.1, c.requires.1)
 
 pub nonzero_rem-cells : goal.nonzero_rem-cells
 nonzero_rem-cells c = rw c.loop-t.invariant.0 (one-le-pow c.args.width 256 (lit< tt))
@@ -37,8 +37,7 @@ inside c = omega (arith, c.requires.2, c.loop-t-test.true, column_long _ _ _ _ _
 
 pub loop-t-preserved : goal.loop-t-preserved
 loop-t-preserved c =
-    let s = c in
-    let a = s.args in
+    let a = c.args in
     let l = c.loop-t in
     let (over, base, few, is) = l.invariant in (
       over,
@@ -46,7 +45,7 @@ loop-t-preserved c =
       omega (arith, c.loop-t-test.true),
       down_step _ _ _ _ _ l.t _ _ _ _ is
           (rw (over, c.get_four.ensures)
-          (low_at a.file.now (get_or a.places.now (a.i + l.t) 0) a.off a.width _ (λ i. omega (arith, c.shared_slice_known-1.given i)) s.requires.0 s.requires.1 (reach (goal.at.loop-t-preserved c).In-loop-t) base)),
+          (low_at a.file.now (get_or a.places.now (a.i + l.t) 0) a.off a.width _ (λ i. omega (arith, c.shared_slice_known-1.given i)) c.requires.0 c.requires.1 (reach (goal.at.loop-t-preserved c).In-loop-t) base)),
     )
 
 pub shape_of-cells : goal.shape_of-cells

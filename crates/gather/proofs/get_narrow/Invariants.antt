@@ -1,20 +1,10 @@
 -- `gather::get_narrow` meets its contract: 1 << 8 w is 256 ^ w, and the remainder is the last w bytes' number. The invariant: the cells so far.
-use mathlib.Core.Path.{◌≡◌, refl, ap, ◌∙◌}
-use mathlib.Core.List.{List, [], ◌∷◌}
-use Prim.Native.Nat.{ℕ, ◌+◌, ◌-◌, ◌%◌, ◌^◌, ◌*◌, ◌≤◌, ◌<◌}
-use native.Mathlib.Nat.{one-mul, one-le-pow, mod-le}
-use native.Mathlib.Omega.{arith}
-use lib.Dec.{lit<}
-use lib.ListN.{length, get_or}
-use lib.Pow.{shl_exact}
-use Rattle.wire.proofs.Laws.{pow_8}
+use mathlib.Core.Path.{◌≡◌}
+use mathlib.Core.List.{[], ◌∷◌}
+use Prim.Native.Nat.{◌+◌, ◌-◌, ◌^◌, ◌≤◌}
 use Rattle.gather.specs.Inner.{rows_at}
-use Rattle.gather.proofs.Laws.{column_long, down_start, down_step, low_at}
 use Rattle.gather.proofs.get_narrow.Given as goal
 
 abbrev pub invariant-loop-t : goal.invariant-loop-t
 invariant-loop-t l =
     (l.over ≡ 256 ^ l.width) × (l.base ≡ l.off + l.width - 4) × (l.t ≤ 8) × (l.cells ≡ rows_at (l.width ∷ []) l.file l.places l.i l.off l.t l.initial.cells 0 l.first)
-
-abbrev pub decreases-loop-t : goal.decreases-loop-t
-decreases-loop-t l = 8 - l.t

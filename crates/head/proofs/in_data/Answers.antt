@@ -1,5 +1,4 @@
-use borrow.Author.Rules.{rules}
-use borrow.Author.Tests.{ltb-true, ltb-false}
+use borrow.Author.Tests.{ltb-false}
 use native.Mathlib.Omega.{arith}
 use mathlib.Core.Logic.{⊎_elim}
 use mathlib.Core.Path.{sym, ◌∙◌}
@@ -7,26 +6,22 @@ use Rattle.head.proofs.Steps.{before_data, past_data, at_end, inside, opened_ste
 use Rattle.head.proofs.in_data.Goals as goal
 
 pub returns-then-place-first : goal.returns-then-place-first
-returns-then-place-first c =
-    let s = c in (
-      sym
-          (opened_step s.requires s.args.place
-          ∙ ⊎_elim (λ w. before_data _ _ _ _ _ _ w) (λ w. past_data _ _ _ _ _ _ w.0 w.1) c.then-place-first.either),
-      tt,
-    )
+returns-then-place-first c = (
+  sym
+      (opened_step c.requires c.args.place
+      ∙ ⊎_elim (λ w. before_data _ _ _ _ _ _ w) (λ w. past_data _ _ _ _ _ _ w.0 w.1) c.then-place-first.either),
+  tt,
+)
 
 pub returns-then-whole : goal.returns-then-whole
 returns-then-whole c =
-    let s = c in
-    (sym (opened_step s.requires s.args.place ∙ at_end _ _ _ _ _ _ (omega arith) c.if-place-stop.true ∙ rw c.if-whole.true), tt)
+    (sym (opened_step c.requires c.args.place ∙ at_end _ _ _ _ _ _ (omega arith) c.if-place-stop.true ∙ rw c.if-whole.true), tt)
 
 pub returns-else-whole : goal.returns-else-whole
 returns-else-whole c =
-    let s = c in
-    (sym (opened_step s.requires s.args.place ∙ at_end _ _ _ _ _ _ (omega arith) c.if-place-stop.true ∙ rw c.if-whole.false), tt)
+    (sym (opened_step c.requires c.args.place ∙ at_end _ _ _ _ _ _ (omega arith) c.if-place-stop.true ∙ rw c.if-whole.false), tt)
 
 pub returns : goal.returns
 returns c =
-    let s = c in
-    let e = c.span_at.ensures ∙ opened_span s.requires s.args.place (omega (arith, c.shared_slice_known-5-1.given s.args.place)) in
-    (c.event_at.ensures.0 ∙ rw e (sym (opened_step s.requires s.args.place ∙ inside _ _ _ _ _ _ (omega arith) (omega (arith, ltb-false)))), c.event_at.ensures.1)
+    let e = c.span_at.ensures ∙ opened_span c.requires c.args.place (omega (arith, c.shared_slice_known-5-1.given c.args.place)) in
+    (c.event_at.ensures.0 ∙ rw e (sym (opened_step c.requires c.args.place ∙ inside _ _ _ _ _ _ (omega arith) (omega (arith, ltb-false)))), c.event_at.ensures.1)

@@ -1,4 +1,3 @@
-use borrow.Author.Rules.{rules}
 use native.Mathlib.Omega.{arith}
 use Rattle.index_form.proofs.Laws.{stands_is}
 use Rattle.index_form.proofs.stands_at.Goals as goal

@@ -1,5 +1,4 @@
 use native.Mathlib.Omega.{arith}
-use borrow.Author.Rules.{rules}
 use Rattle.patch.proofs.Viewed.{field_filled}
 use Rattle.patch.proofs.put_filled.Goals as goal
 

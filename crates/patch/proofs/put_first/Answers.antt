@@ -1,6 +1,5 @@
 use mathlib.Core.Path.{sym}
 use lib.Seq.{length-take-le}
-use borrow.Author.Rules.{rules}
 use Rattle.wire.proofs.Writers.{room_first_of, wrote_first_of}
 use Rattle.patch.proofs.put_first.Goals as goal
 

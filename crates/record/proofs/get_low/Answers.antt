@@ -3,7 +3,6 @@ use mathlib.Core.Path.{◌≡◌, ◌∙◌}
 use Prim.Native.Nat.{ℕ, ◌%◌, ◌^◌, ◌*◌, ◌≤◌}
 use native.Mathlib.Nat.{one-mul, mod-le}
 use native.Mathlib.Omega.{arith}
-use borrow.Author.Rules.{rules}
 use lib.Dec.{lit<}
 use lib.Pow.{shl_exact, pow_pos}
 use Rattle.wire.proofs.Laws.{pow_8}

@@ -1,6 +1,5 @@
 -- `record::put_head` meets its contract: a byte, a number and a player, one after the other.
 use mathlib.Core.List.{[], ◌∷◌}
-use borrow.Author.Rules.{rules}
 use Rattle.wire.proofs.Writers.{room_first, room_second, wrote_then}
 use Rattle.record.specs.Inner.{head_bytes}
 use Rattle.record.proofs.put_head.Goals as goal
@@ -12,15 +11,12 @@ put_u8-p-requires c = room_first {xs = c.args.h.code ∷ []} _ c.requires
 pub put_u32-p-requires : goal.put_u32-p-requires
 unfolding head_bytes
 put_u32-p-requires c =
-    let c6 = c in
-    room_first _ (room_second {xs = c6.args.h.code ∷ []} c6.requires c.put_u8-p.ensures)
+    room_first _ (room_second {xs = c.args.h.code ∷ []} c.requires c.put_u8-p.ensures)
 
 pub put_player-requires : goal.put_player-requires
 unfolding head_bytes
 put_player-requires c =
-    let c7 = c in
-    let c10 = c7 in
-    room_second (room_second {xs = c10.args.h.code ∷ []} c10.requires c7.put_u8-p.ensures) c.put_u32-p.ensures
+    room_second (room_second {xs = c.args.h.code ∷ []} c.requires c.put_u8-p.ensures) c.put_u32-p.ensures
 
 pub returns : goal.returns
 unfolding head_bytes

@@ -1,5 +1,4 @@
 use mathlib.Core.List.{[], ◌∷◌}
-use borrow.Author.Rules.{rules}
 use Rattle.wire.proofs.Writers.{room_first, room_second, room_kept, wrote_then, wrote_kept, wrote_none}
 use Rattle.record.proofs.put_player.Goals as goal
 
@@ -10,10 +9,8 @@ put_u8-p-requires c =
 
 pub put_u8-requires : goal.put_u8-requires
 put_u8-requires c =
-    let c5 = c in
-    let c7 = c5 in
-    let h = c7.args.h in
-    room_second {xs = h.port ∷ []} {ys = h.follower ∷ []} (room_kept _ _ c5.if-h.true c7.requires) c.put_u8-p.ensures
+    let h = c.args.h in
+    room_second {xs = h.port ∷ []} {ys = h.follower ∷ []} (room_kept _ _ c.if-h.true c.requires) c.put_u8-p.ensures
 
 pub returns-then-h : goal.returns-then-h
 returns-then-h c = wrote_kept _ _ c.if-h.true (wrote_then c.put_u8-p.ensures c.put_u8.ensures)

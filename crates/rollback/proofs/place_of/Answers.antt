@@ -1,6 +1,5 @@
 -- Assumes nothing.
 use mathlib.Core.Path.{ap, ◌∙◌}
-use borrow.Author.Rules.{rules}
 use Rattle.format.specs.FrameId.{place_of}
 use Rattle.rollback.proofs.place_of.Goals as goal
 

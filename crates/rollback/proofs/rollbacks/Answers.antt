@@ -1,7 +1,6 @@
 -- `rollback::rollbacks` meets its contract: each return is one way that a call ends, and only the last has changed a lent byte.
 use mathlib.Core.Path.{sym, ◌∙◌}
 use native.Mathlib.Omega.{arith}
-use borrow.Author.Rules.{rules}
 use lib.ListN.{length}
 use lib.Seq.{length-take-le}
 use Rattle.rollback.proofs.Outcomes.{too_many_lem, mask_short, out_of_range, scratch_short, written}

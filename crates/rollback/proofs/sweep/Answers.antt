@@ -1,17 +1,16 @@
 use mathlib.Core.Path.{sym, ap, ◌∙◌}
-use Prim.Native.Nat.{ℕ, ◌-◌, ◌<◌}
+use Prim.Native.Nat.{ℕ, ◌<◌}
 use native.Mathlib.Omega.{arith}
-use borrow.Author.Rules.{rules}
 use lib.ListN.{length, replicate}
 use Rattle.rollback.proofs.Places.{placed}
-use Rattle.rollback.proofs.Turns.{Swept, swept_length, swept_none, swept_all, place_below, swept_more}
+use Rattle.rollback.proofs.Turns.{swept_length, swept_none, swept_all, place_below, swept_more}
 use Rattle.rollback.proofs.sweep.Goals as goal
 use Rattle.rollback.proofs.sweep.Goals.{After-slice_known-in-loop-k-1}
 
 -- the function's entry, and the loop's head
 pub loop-k-init : goal.loop-k-init
 loop-k-init c =
-    swept_none c.requires.0 (c.clear.ensures ∙ ap (λ (n : ℕ). replicate n 0) c.requires.1)
+    swept_none c.requires.0 (c.fill.ensures.after (λ y e. e) ∙ ap (λ (n : ℕ). replicate n 0) c.requires.1)
 
 -- the place is in the marks
 in-marks : (c : After-slice_known-in-loop-k-1) → c.place_of-p.result < length c.loop-k.marks

@@ -1,9 +1,9 @@
-use Prim.Native.Nat.{◌+◌, ◌-◌, ◌≤◌}
+use Prim.Native.Nat.{◌+◌, ◌≤◌}
 use native.Mathlib.Omega.{arith}
 use mathlib.Core.Path.{refl}
 use lib.ListN.{length, get_or}
 use Rattle.wire.proofs.Laws.{length_be}
-use Rattle.spread.specs.Inner.{cell_at, place_at, Strewn}
+use Rattle.spread.specs.Inner.{place_at}
 use Rattle.spread.proofs.Laws.{strewn_start, strewn_step, strewn_length, strewn_done}
 use Rattle.spread.proofs.put_column.Goals as goal
 use Rattle.spread.proofs.put_column.Goals.{In-loop-t}
@@ -21,8 +21,7 @@ put_u32-requires c = record { fits = rw length_be (omega (arith, reach (goal.at.
 pub loop-t-preserved : goal.loop-t-preserved
 unfolding place_at
 loop-t-preserved c =
-    let c7 = c in
-    (omega (arith, c.loop-t-test.true), strewn_step c7.loop-t.t c7.loop-t.invariant.1 c.put_u32.ensures refl)
+    (omega (arith, c.loop-t-test.true), strewn_step c.loop-t.t c.loop-t.invariant.1 c.put_u32.ensures refl)
 
 pub shape_of-out : goal.shape_of-out
 shape_of-out c = strewn_length c.loop-t.t c.loop-t.invariant.1

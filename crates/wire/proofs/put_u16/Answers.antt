@@ -1,25 +1,8 @@
-use borrow.Author.Rules.{rules}
+-- There is room for two bytes, whatever they are.
 use native.Mathlib.Omega.{arith}
-use lib.ListN.{length-set}
 use Rattle.wire.specs.Wire.{be}
-use Rattle.wire.proofs.Writers.{wrote_2}
 use Rattle.wire.proofs.put_u16.Goals as goal
 
-pub bounds-out-at : goal.bounds-out-at
+pub put_be-requires : goal.put_be-requires
 unfolding be
-bounds-out-at c = search rules
-
-pub overflow_add-out : goal.overflow_add-out
-unfolding be
-overflow_add-out c = search rules
-
-pub bounds-out-at-2 : goal.bounds-out-at-2
-unfolding be
-bounds-out-at-2 c = simp length-set (omega arith)
-
-pub overflow_add-result : goal.overflow_add-result
-unfolding be
-overflow_add-result c = search rules
-
-pub returns : goal.returns
-returns c = wrote_2 _ _ _
+put_be-requires c = (omega arith, record { fits = c.requires.fits })

@@ -1,4 +1,3 @@
-use borrow.Author.Rules.{rules}
 use Rattle.wire.proofs.Writers.{wrote_byte}
 use Rattle.wire.proofs.put_u8.Goals as goal
 

@@ -14,6 +14,3 @@ use Rattle.append.proofs.length.players_between.Given as goal
 abbrev pub invariant-loop-k : goal.invariant-loop-k
 invariant-loop-k l =
     (l.k ≤ l.s.count) × (l.s.count ≤ 8) × (l.n + players_over l.presence (drop l.k (slots_in l.s)) l.a (l.b - l.a) ≡ players_over l.presence (slots_in l.s) l.a (l.b - l.a))
-
-abbrev pub decreases-loop-k : goal.decreases-loop-k
-decreases-loop-k l = l.s.count - l.k

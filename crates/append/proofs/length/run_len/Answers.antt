@@ -5,6 +5,7 @@ use native.Mathlib.Omega.{arith}
 use borrow.Author.Rules.{rules}
 use Rattle.layout.specs.declared.columns.Family.TheVariants.{Item, FodPlatform, DreamlandWhispy, StadiumTransformation}
 use Rattle.game.specs.Stores.{offsets}
+use Rattle.game.specs.Held.{offsets_in}
 use Rattle.append.proofs.Lengths.{small, few_rows, ranges_in, run_adds}
 use Rattle.append.proofs.length.run_len.Goals as goal
 use Rattle.append.proofs.length.run_len.Goals.{After-records_len-ends, After-struct_known-1, After-struct_known-2-1}
@@ -68,7 +69,7 @@ total c =
 pub returns : goal.returns
 returns c =
     let a = c.args in
-    let os = offsets a.item_offsets.now a.fod_offsets.now a.whispy_offsets.now a.stadium_offsets.now in
+    let os = offsets_in a.offsets.now in
     run_adds a.f os a.presence.now a.shapes c.requires.0.3 a.a a.b _ _ refl c.players_between-players.ensures.0 _ _ _ _ _ _
     c.records_len-starts.ensures.0 c.rows_len-fods.ensures.0 c.rows_len-whispys.ensures.0
     c.rows_len-stadiums.ensures.0 c.rows_len-items.ensures.0 c.records_len-ends.ensures.0

@@ -6,6 +6,7 @@ use Rattle.frames.proofs.Accepted.{accepted}
 use Rattle.game.specs.Stores.{Lent, cells, offsets, lent}
 use Rattle.events.proofs.Laws.{run_is, supplied_of}
 use Rattle.append.specs.Run.{run_events}
+use Rattle.game.specs.Held.{lent_in}
 use Rattle.append.proofs.Lengths.{framed}
 use Rattle.append.proofs.Outcomes.{in_order_lem, short_refused, run_written, short_as, run_room}
 use Rattle.append.proofs.place.put_run.Goals as goal
@@ -13,8 +14,7 @@ use Rattle.append.proofs.place.put_run.Goals.{Start}
 
 abbrev stores : (s : Start) → Lent
 stores s =
-    lent (cells s.args.ids.now s.args.starts.now s.args.pres.now s.args.posts.now s.args.ends.now s.args.items.now s.args.fods.now s.args.whispys.now s.args.stadiums.now)
-    (offsets s.args.item_offsets.now s.args.fod_offsets.now s.args.whispy_offsets.now s.args.stadium_offsets.now) s.args.presence.now
+    lent_in s.args.lent.now
 
 pub slots_of-s-requires : goal.slots_of-s-requires
 slots_of-s-requires c = let p = accepted _ _ _ _ c.requires.0 in (p.modest, p.presence.even)

@@ -6,12 +6,12 @@ use Rattle.case_calls.proofs.row.write_row.Goals as goal
 pub get_be-requires : goal.get_be-requires
 get_be-requires c =
     let w = c.write-w in
-    (omega arith, head_there _ _ w.ensures c.in-File.is w.auto.out)
+    (omega arith, head_there _ _ w.ensures c.in-Ok.is w.auto.out)
 
-pub returns-in-File : goal.returns-in-File
-returns-in-File c =
+pub returns-in-Ok : goal.returns-in-Ok
+returns-in-Ok c =
     let w = c.write-w in
-    file_row _ _ _ w.ensures c.in-File.is c.get_be.ensures
+    file_row _ _ _ w.ensures c.in-Ok.is c.get_be.ensures
 
-pub returns-in-Refused : goal.returns-in-Refused
-returns-in-Refused c = refusal_row _ _ c.write-w.ensures c.in-Refused.is
+pub returns-in-Err : goal.returns-in-Err
+returns-in-Err c = refusal_row _ _ _ c.write-w.ensures c.in-Err.is c.number.ensures

@@ -1,10 +1,10 @@
-use borrow.Author.Rules.{rules}
 use mathlib.Core.Path.{refl}
+use Rattle.map.proofs.Numbers.{some_number}
 use Rattle.check_file.proofs.Tails.{body_refused, body_as}
 use Rattle.check_file.proofs.tail.is_body.Goals as goal
 
-pub returns-then-g-ne0 : goal.returns-then-g-ne0
-returns-then-g-ne0 c = let g = c.read_map-g in body_refused c.args.body.now g.result.refusal g.result.stop g.ensures.0 g.ensures.1 c.if-g-ne0.true
+pub returns-in-Err : goal.returns-in-Err
+returns-in-Err c = body_refused c.args.body.now _ _ c.in-Err.ensures.0 c.in-Err.ensures.1 (some_number _)
 
-pub returns : goal.returns
-returns c = let g = c.read_map-g in body_as c.args.body.now g.result.refusal g.result.stop g.ensures.0 g.ensures.1 c.if-g-ne0.false _ refl
+pub returns-in-Ok : goal.returns-in-Ok
+returns-in-Ok c = body_as c.args.body.now _ _ c.in-Ok.ensures.0 c.in-Ok.ensures.1 refl _ refl

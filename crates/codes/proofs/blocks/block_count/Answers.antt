@@ -1,6 +1,5 @@
 use native.Mathlib.Omega.{arith}
 use mathlib.Core.Path.{refl}
-use borrow.Author.Rules.{rules}
 use Rattle.codes.specs.Blocks.{block_count}
 use Rattle.codes.proofs.blocks.block_count.Goals as goal
 

@@ -1,5 +1,4 @@
 use mathlib.Core.Path.{sym, ◌∙◌}
-use borrow.Author.Rules.{rules}
 use Rattle.codes.specs.Blocks.{codes_wrong}
 use Rattle.codes.proofs.blocks.codes_wrong.Goals as goal
 

@@ -1,6 +1,5 @@
 -- `codes::blocks::put_block` meets its contract: a byte, 512 bytes of the codes, and the block's end.
 use mathlib.Core.Path.{sym}
-use borrow.Author.Rules.{rules}
 use Rattle.wire.proofs.Writers.{room_as, room_first, room_second, wrote_as, wrote_then}
 use Rattle.codes.proofs.Laws.{block_parts}
 use Rattle.codes.proofs.blocks.put_block.Goals as goal
@@ -14,10 +13,8 @@ put_bytes-p-requires c =
 
 pub put_block_end-requires : goal.put_block_end-requires
 put_block_end-requires c =
-    let c8 = c in
-    let c13 = c8 in
-    let r = room_as (block_parts _ _ _ _ c8.code.ensures) c13.requires.2 in
-    (c13.requires.0, room_second (room_second r c8.put_u8-p.ensures) c.put_bytes-p.ensures)
+    let r = room_as (block_parts _ _ _ _ c.code.ensures) c.requires.2 in
+    (c.requires.0, room_second (room_second r c.put_u8-p.ensures) c.put_bytes-p.ensures)
 
 pub returns : goal.returns
 returns c =

@@ -1,6 +1,5 @@
 -- `codes::blocks::put_block_end` meets its contract: a number and two bytes, one after the other.
 use mathlib.Core.Path.{refl, sym}
-use borrow.Author.Rules.{rules}
 use Rattle.wire.proofs.Writers.{room_as, room_first, room_second, wrote_as, wrote_then}
 use Rattle.codes.proofs.Laws.{block_end_parts}
 use Rattle.codes.proofs.blocks.put_block_end.Goals as goal
@@ -15,17 +14,13 @@ put_u8-p-requires c =
 
 pub put_u8-requires : goal.put_u8-requires
 put_u8-requires c =
-    let c5 = c in
-    let c10 = c5 in
-    let r = room_as (block_end_parts _ _ _ _ _ c10.used_bytes.ensures c5.code.ensures c.last_flag.ensures) c10.requires.1 in
-    room_second (room_second r c5.put_u16-p.ensures) c.put_u8-p.ensures
+    let r = room_as (block_end_parts _ _ _ _ _ c.used_bytes.ensures c.code.ensures c.last_flag.ensures) c.requires.1 in
+    room_second (room_second r c.put_u16-p.ensures) c.put_u8-p.ensures
 
 pub returns : goal.returns
 returns c =
-    let c7 = c in
-    let c12 = c7 in
-    wrote_as (sym (block_end_parts _ _ _ _ _ c12.used_bytes.ensures c7.code.ensures c.last_flag.ensures))
-    (wrote_then c12.put_u16-p.ensures (wrote_then c7.put_u8-p.ensures c.put_u8.ensures))
+    wrote_as (sym (block_end_parts _ _ _ _ _ c.used_bytes.ensures c.code.ensures c.last_flag.ensures))
+    (wrote_then c.put_u16-p.ensures (wrote_then c.put_u8-p.ensures c.put_u8.ensures))
 
 pub used_bytes-requires : goal.used_bytes-requires
 used_bytes-requires c = c.requires.0

@@ -1,5 +1,4 @@
 use mathlib.Core.Path.{sym}
-use borrow.Author.Rules.{rules}
 use Rattle.wire.proofs.Writers.{room_as, room_kept, wrote_as, wrote_kept, wrote_none}
 use Rattle.codes.proofs.Laws.{code_bytes}
 use Rattle.codes.proofs.blocks.put_codes.Goals as goal

@@ -1,5 +1,10 @@
 use native.Mathlib.Omega.{arith}
-use borrow.Author.Rules.{rules}
+use native.Mathlib.Decide.{dec_lt}
+use mathlib.Core.Path.{◌≡◌, ◌∙◌}
+use mathlib.Core.Bool.{cond}
+use Prim.Native.Nat.{ℕ, ◌-◌, ◌*◌}
+use Rattle.std.specs.Prelude.{min}
+use lib.Dec.{ltb}
 use borrow.Author.Tests.{lt-ltb, le-ltb}
 use Rattle.codes.specs.Blocks.{block_count, used}
 use Rattle.codes.proofs.blocks.used_bytes.Goals as goal
@@ -12,10 +17,10 @@ pub overflow_sub-rest : goal.overflow_sub-rest
 unfolding block_count
 overflow_sub-rest c = omega arith
 
-pub returns-then-rest-gt512 : goal.returns-then-rest-gt512
-unfolding used
-returns-then-rest-gt512 c = rw (lt-ltb 512 _ c.if-rest-gt512.true)
+-- the smaller of two
+least : (x : ℕ) → min x 512 ≡ cond (ltb 512 x) 512 x
+least x = elim (dec_lt 512 x) [ yes h ↦ rw (lt-ltb 512 x h) (omega arith) | no h ↦ rw (le-ltb 512 x (omega (arith, h))) (omega (arith, h)) ]
 
 pub returns : goal.returns
 unfolding used
-returns c = rw (le-ltb 512 _ c.if-rest-gt512.false)
+returns c = c.min.ensures ∙ least (c.args.actual - 512 * c.args.b)

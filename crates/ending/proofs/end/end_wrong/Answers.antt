@@ -1,6 +1,5 @@
 use mathlib.Core.Path.{sym, ◌∙◌}
 use mathlib.Core.Bool.{true, false}
-use borrow.Author.Rules.{rules}
 use Rattle.ending.proofs.Laws.{wrong_without, wrong_with}
 use Rattle.ending.proofs.end.end_wrong.Goals as goal
 

@@ -1,4 +1,3 @@
-use borrow.Author.Rules.{rules}
 use borrow.Author.Tests.{eq-eqb, ne_eqb}
 use Rattle.ending.specs.End.{placement_of}
 use Rattle.ending.proofs.end.placement.Goals as goal

@@ -1,6 +1,5 @@
 -- `ending::end::put_end` meets its contract: its parts, one after the other.
 use mathlib.Core.Path.{sym}
-use borrow.Author.Rules.{rules}
 use Rattle.wire.proofs.Writers.{room_as, room_first, room_second, wrote_as, wrote_then}
 use Rattle.ending.proofs.Laws.{end_parts_lem}
 use Rattle.ending.proofs.end.put_end.Goals as goal
@@ -13,18 +12,13 @@ put_u8-p-requires-2 c = room_first _ (room_second (room_as (end_parts_lem _ _ _ 
 
 pub put_initiator-p-requires : goal.put_initiator-p-requires
 put_initiator-p-requires c =
-    let c7 = c in
-    room_first _ (room_second (room_second (room_as (end_parts_lem _ _ _ c7.code.ensures) c7.requires) c7.put_u8-p.ensures) c.put_u8-p-2.ensures)
+    room_first _ (room_second (room_second (room_as (end_parts_lem _ _ _ c.code.ensures) c.requires) c.put_u8-p.ensures) c.put_u8-p-2.ensures)
 
 pub put_placements-requires : goal.put_placements-requires
 put_placements-requires c =
-    let c7 = c in
-    let c12 = c7 in
-    room_second (room_second (room_second (room_as (end_parts_lem _ _ _ c12.code.ensures) c12.requires) c7.put_u8-p.ensures) c7.put_u8-p-2.ensures) c.put_initiator-p.ensures
+    room_second (room_second (room_second (room_as (end_parts_lem _ _ _ c.code.ensures) c.requires) c.put_u8-p.ensures) c.put_u8-p-2.ensures) c.put_initiator-p.ensures
 
 pub returns : goal.returns
 returns c =
-    let c6 = c in
-    let c14 = c6 in
-    wrote_as (sym (end_parts_lem _ _ _ c14.code.ensures))
-    (wrote_then c14.put_u8-p.ensures (wrote_then c6.put_u8-p-2.ensures (wrote_then c6.put_initiator-p.ensures c.put_placements.ensures)))
+    wrote_as (sym (end_parts_lem _ _ _ c.code.ensures))
+    (wrote_then c.put_u8-p.ensures (wrote_then c.put_u8-p-2.ensures (wrote_then c.put_initiator-p.ensures c.put_placements.ensures)))

@@ -1,6 +1,5 @@
 -- `ending::end::put_ends` meets its contract: none, one or two ends.
 use mathlib.Core.Path.{sym}
-use borrow.Author.Rules.{rules}
 use Rattle.wire.proofs.Writers.{room_as, room_first, room_second, room_kept, wrote_as, wrote_then, wrote_kept, wrote_none}
 use Rattle.format.proofs.Tests.{no_mark, a_mark}
 use Rattle.ending.proofs.Laws.{ends_bytes_lem}

@@ -1,9 +1,6 @@
-use mathlib.Core.List.{[], ◌∷◌}
-use Prim.Native.Nat.{◌-◌, ◌≤◌}
 use native.Mathlib.Omega.{arith}
-use Rattle.wire.specs.Wire.{ranged}
-use Rattle.wire.proofs.Writers.{Left, left_start, range_room, range_step, range_done, room_byte, wrote_as_byte}
-use Rattle.ending.specs.End.{placement_of, placements_of}
+use Rattle.wire.proofs.Writers.{left_start, range_room, range_step, range_done, room_byte, wrote_as_byte}
+use Rattle.ending.specs.End.{placements_of}
 use Rattle.ending.proofs.end.put_four.Goals as goal
 
 pub loop-i-init : goal.loop-i-init
@@ -12,15 +9,15 @@ loop-i-init c = (omega arith, left_start)
 
 pub put_u8-p-requires : goal.put_u8-p-requires
 put_u8-p-requires c =
-    let l = c.loop-i in room_byte c.placement.ensures (range_room _ l.i _ l.invariant.1 c.loop-i-test.true c.requires)
+    let l = c.loop-i in room_byte c.placement.ensures (range_room _ l.i _ l.invariant.1 (omega arith) c.requires)
 
 pub loop-i-preserved : goal.loop-i-preserved
 loop-i-preserved c =
     let l = c.loop-i in
-    (omega arith, range_step _ l.i _ l.invariant.1 c.loop-i-test.true (wrote_as_byte c.placement.ensures c.put_u8-p.ensures))
+    (omega arith, range_step _ l.i _ l.invariant.1 (omega arith) (wrote_as_byte c.placement.ensures c.put_u8-p.ensures))
 
 pub shape_of-out : goal.shape_of-out
 shape_of-out c = c.loop-i.invariant.1.same
 
 pub returns : goal.returns
-returns c = range_done _ _ _ c.loop-i.invariant.1 c.loop-i-test.false
+returns c = range_done _ _ _ c.loop-i.invariant.1 (omega arith)

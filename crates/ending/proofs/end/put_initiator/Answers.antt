@@ -1,5 +1,4 @@
 use mathlib.Core.Path.{sym, ◌∙◌}
-use borrow.Author.Rules.{rules}
 use Rattle.wire.proofs.Writers.{room_kept, wrote_kept, wrote_none}
 use Rattle.ending.proofs.end.put_initiator.Goals as goal
 

@@ -1,5 +1,4 @@
 -- `ending::tail::put_metadata` meets its contract: key, body and brace, one after the other.
-use borrow.Author.Rules.{rules}
 use Rattle.wire.proofs.Writers.{room_first, room_second, room_kept, wrote_then, wrote_kept, wrote_none}
 use Rattle.ending.specs.Tail.{metadata_key, metadata_of}
 use Rattle.ending.proofs.tail.put_metadata.Goals as goal
@@ -15,9 +14,7 @@ put_bytes-p-requires-then-given c = room_first _ (room_second {xs = metadata_key
 pub put_u8-requires : goal.put_u8-requires
 unfolding metadata_of
 put_u8-requires c =
-    let c7 = c in
-    let c13 = c7 in
-    room_second (room_second {xs = metadata_key} (room_kept _ _ c7.if-given.true c13.requires) c7.put_bytes-p.ensures) c.put_bytes-p-then-given.ensures
+    room_second (room_second {xs = metadata_key} (room_kept _ _ c.if-given.true c.requires) c.put_bytes-p.ensures) c.put_bytes-p-then-given.ensures
 
 pub returns-then-given : goal.returns-then-given
 unfolding metadata_of

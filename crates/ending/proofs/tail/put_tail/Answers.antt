@@ -1,4 +1,3 @@
-use borrow.Author.Rules.{rules}
 use Rattle.wire.proofs.Writers.{room_first, room_second, wrote_then}
 use Rattle.ending.specs.Tail.{tail_of}
 use Rattle.ending.proofs.tail.put_tail.Goals as goal

@@ -1,7 +1,7 @@
 use lib.ListN.{length-replicate}
 use native.Mathlib.Omega.{arith}
-use borrow.Author.Rules.{rules}
 use Rattle.game.specs.Stores.{Lent, cells, offsets, lent}
+use Rattle.game.specs.Held.{lent_in}
 use Rattle.events.proofs.PlaceLaws.{slim_of, ranges_all, begins_fit, calm_absent, laid_rooms, laid_apiece, laid_wrote}
 use Rattle.events.proofs.eights.put_eight.Goals as goal
 use Rattle.events.proofs.eights.put_eight.Goals.{Start}
@@ -10,7 +10,7 @@ use Rattle.events.proofs.eights.put_eight.Goals.{Start}
 abbrev all : (c : Start) → Lent
 all c =
     let a = c.args in
-    lent (cells a.ids.now a.starts.now a.pres.now a.posts.now a.ends.now a.items.now a.fods.now a.whispys.now a.stadiums.now) (offsets a.item_offsets.now a.fod_offsets.now a.whispy_offsets.now a.stadium_offsets.now) a.presence.now
+    lent_in a.lent.now
 
 pub spans_of-z-requires : goal.spans_of-z-requires
 spans_of-z-requires c = (c.requires.0.seats, slim_of c.args.shapes c.args.s (all (goal.at.spans_of-z-requires c).Start) _ c.requires.0)
@@ -29,29 +29,23 @@ lay_out-end-requires c =
 
 pub put_parts-requires : goal.put_parts-requires
 put_parts-requires c =
-    let c6 = c in
-    let c22 = c6 in
-    let s = c22 in
-    let a = s.args in
-    let h = c6.spans_of-z.ensures in
-    let z = c6.spans_of-z.result in
+    let a = c.args in
+    let h = c.spans_of-z.ensures in
+    let z = c.spans_of-z.result in
     let d = c.lay_out-end.ensures in (
-      s.requires.0,
-      s.requires.1,
-      s.requires.2,
-      laid_apiece a.shapes a.s (all (goal.at.put_parts-requires c).Start) _ a.i s.requires.0 s.requires.2 z h d,
-      laid_rooms a.shapes a.s (all (goal.at.put_parts-requires c).Start) _ a.i s.requires.0 s.requires.2 z h d s.requires.3,
-      calm_absent a.shapes a.s (all (goal.at.put_parts-requires c).Start) _ a.i s.requires.0 s.requires.2 z h
+      c.requires.0,
+      c.requires.1,
+      c.requires.2,
+      laid_apiece a.shapes a.s (all (goal.at.put_parts-requires c).Start) _ a.i c.requires.0 c.requires.2 z h d,
+      laid_rooms a.shapes a.s (all (goal.at.put_parts-requires c).Start) _ a.i c.requires.0 c.requires.2 z h d c.requires.3,
+      calm_absent a.shapes a.s (all (goal.at.put_parts-requires c).Start) _ a.i c.requires.0 c.requires.2 z h
           c.is_calm-calm.result c.is_calm-calm.ensures,
     )
 
 pub returns : goal.returns
 returns c =
-    let c9 = c in
-    let c25 = c9 in
-    let s = c25 in
-    let a = s.args in
-    laid_wrote a.shapes a.s (all (goal.at.returns c).Start) _ a.i s.requires.0 s.requires.2 c9.spans_of-z.result c9.spans_of-z.ensures c.lay_out-end.ensures c.put_parts.ensures
+    let a = c.args in
+    laid_wrote a.shapes a.s (all (goal.at.returns c).Start) _ a.i c.requires.0 c.requires.2 c.spans_of-z.result c.spans_of-z.ensures c.lay_out-end.ensures c.put_parts.ensures
 
 pub overflow_add-i : goal.overflow_add-i
 overflow_add-i c = omega (arith, c.requires.1, c.requires.0.frames)

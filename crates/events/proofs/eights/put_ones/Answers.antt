@@ -1,7 +1,6 @@
 use mathlib.Core.Path.{sym}
 use Prim.Native.Nat.{◌+◌}
 use native.Mathlib.Omega.{arith}
-use borrow.Author.Rules.{rules}
 use Rattle.spread.proofs.Laws.{rooms_as, sown_as, sown_none}
 use Rattle.events.proofs.Laws.{only_in}
 use Rattle.events.proofs.EightLaws.{ones_given, ones_none}

@@ -1,17 +1,16 @@
 -- `events::frame::put_frames` meets its contract: records by shapes are the definition's events.
 use mathlib.Core.Path.{sym}
 use native.Mathlib.Omega.{arith}
-use borrow.Author.Rules.{rules}
 use Rattle.wire.proofs.Writers.{room_as, wrote_as}
 use Rattle.game.specs.Stores.{Lent, cells, offsets, lent}
+use Rattle.game.specs.Held.{lent_in}
 use Rattle.events.proofs.Laws.{run_is, supplied_of}
 use Rattle.events.proofs.frame.put_frames.Goals as goal
 use Rattle.events.proofs.frame.put_frames.Goals.{Start}
 
 abbrev stores : (s : Start) → Lent
 stores s =
-    lent (cells s.args.ids.now s.args.starts.now s.args.pres.now s.args.posts.now s.args.ends.now s.args.items.now s.args.fods.now s.args.whispys.now s.args.stadiums.now)
-    (offsets s.args.item_offsets.now s.args.fod_offsets.now s.args.whispy_offsets.now s.args.stadium_offsets.now) s.args.presence.now
+    lent_in s.args.lent.now
 
 pub shapes_of-shapes-requires : goal.shapes_of-shapes-requires
 shapes_of-shapes-requires c = c.requires.0.modest

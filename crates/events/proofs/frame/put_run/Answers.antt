@@ -1,9 +1,5 @@
-use Prim.Native.Nat.{◌-◌, ◌≤◌}
 use native.Mathlib.Omega.{arith}
-use Rattle.wire.specs.Wire.{ranged}
-use Rattle.wire.proofs.Writers.{Left, left_start, range_room, range_step, range_done}
-use Rattle.game.specs.Stores.{cells, offsets, lent}
-use Rattle.events.specs.Inner.{frame_bytes}
+use Rattle.wire.proofs.Writers.{left_start, range_room, range_step, range_done}
 use Rattle.events.proofs.AlikeLaws.{eights_room, eights_step}
 use Rattle.events.proofs.frame.put_run.Goals as goal
 
@@ -15,7 +11,7 @@ loop-i-init c = (c.requires.1, left_start)
 
 pub is_team-requires : goal.is_team-requires
 is_team-requires c =
-    let s = c in (c.is_whole-whole.ensures, s.requires.0.seats, c.loop-i.invariant.0, omega (arith, s.requires.2, s.requires.0.frames))
+    (c.is_whole-whole.ensures, c.requires.0.seats, c.loop-i.invariant.0, omega (arith, c.requires.2, c.requires.0.frames))
 
 pub put_eight-p-requires : goal.put_eight-p-requires
 put_eight-p-requires c =
@@ -25,8 +21,7 @@ put_eight-p-requires c =
 
 pub overflow_add-i : goal.overflow_add-i
 overflow_add-i c =
-    let c24 = c in
-    let s = c24 in omega (arith, c.loop-i-test.true, s.requires.0.frames, s.requires.2)
+    omega (arith, c.loop-i-test.true, c.requires.0.frames, c.requires.2)
 
 pub loop-i-preserved-then-is_team : goal.loop-i-preserved-then-is_team
 loop-i-preserved-then-is_team c =
@@ -42,8 +37,7 @@ put_frame-p-requires c =
 
 pub overflow_add-i-else-is_team : goal.overflow_add-i-else-is_team
 overflow_add-i-else-is_team c =
-    let c24 = c in
-    let s = c24 in omega (arith, c.loop-i-test.true, s.requires.0.frames, s.requires.2)
+    omega (arith, c.loop-i-test.true, c.requires.0.frames, c.requires.2)
 
 pub loop-i-preserved : goal.loop-i-preserved
 loop-i-preserved c =
@@ -51,14 +45,5 @@ loop-i-preserved c =
     let t = c.loop-i-test.true in
     (omega (arith, t), range_step _ l.i _ l.invariant.1 t c.put_frame-p.ensures)
 
-pub shape_of-out : goal.shape_of-out
-shape_of-out c = c.loop-i.invariant.1.same
-
 pub returns : goal.returns
 returns c = range_done _ _ _ c.loop-i.invariant.1 c.loop-i-test.false
-
-pub loop-i-smaller-then-is_team : goal.loop-i-smaller-then-is_team
-loop-i-smaller-then-is_team c = omega (arith, c.loop-i-test.true)
-
-pub loop-i-smaller : goal.loop-i-smaller
-loop-i-smaller c = omega (arith, c.loop-i-test.true)

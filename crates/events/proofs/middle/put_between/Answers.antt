@@ -1,5 +1,4 @@
 -- `events::middle::put_between` meets its contract: a frame without such rows has no bytes there.
-use borrow.Author.Rules.{rules}
 use Rattle.events.proofs.Laws.{middle_none, wrote_nothing}
 use Rattle.events.proofs.middle.put_between.Goals as goal
 

@@ -1,4 +1,3 @@
-use borrow.Author.Rules.{rules}
 use Rattle.wire.proofs.Writers.{room_first, room_second, wrote_then}
 use Rattle.events.specs.Inner.{middle_bytes}
 use Rattle.events.proofs.middle.put_middle.Goals as goal
@@ -11,34 +10,25 @@ put_rows-p-requires c =
 pub put_rows-p-requires-2 : goal.put_rows-p-requires-2
 unfolding middle_bytes
 put_rows-p-requires-2 c =
-    let s = c in
-    let r2 = room_second s.requires.2 c.put_rows-p.ensures in
-    (s.requires.0.1, s.requires.1, room_first _ r2)
+    let r2 = room_second c.requires.2 c.put_rows-p.ensures in
+    (c.requires.0.1, c.requires.1, room_first _ r2)
 
 pub put_rows-p-requires-3 : goal.put_rows-p-requires-3
 unfolding middle_bytes
 put_rows-p-requires-3 c =
-    let c1 = c in
-    let s = c1 in
-    let r2 = room_second s.requires.2 c1.put_rows-p.ensures in
+    let r2 = room_second c.requires.2 c.put_rows-p.ensures in
     let r3 = room_second r2 c.put_rows-p-2.ensures in
-    (s.requires.0.2, s.requires.1, room_first _ r3)
+    (c.requires.0.2, c.requires.1, room_first _ r3)
 
 pub put_rows-requires : goal.put_rows-requires
 unfolding middle_bytes
 put_rows-requires c =
-    let c2 = c in
-    let c1 = c2 in
-    let s = c1 in
-    let r2 = room_second s.requires.2 c1.put_rows-p.ensures in
-    let r3 = room_second r2 c2.put_rows-p-2.ensures in
+    let r2 = room_second c.requires.2 c.put_rows-p.ensures in
+    let r3 = room_second r2 c.put_rows-p-2.ensures in
     let r4 = room_second r3 c.put_rows-p-3.ensures in
-    (s.requires.0.3, s.requires.1, r4)
+    (c.requires.0.3, c.requires.1, r4)
 
 pub returns : goal.returns
 unfolding middle_bytes
 returns c =
-    let c3 = c in
-    let c2 = c3 in
-    let c1 = c2 in
-    wrote_then c1.put_rows-p.ensures (wrote_then c2.put_rows-p-2.ensures (wrote_then c3.put_rows-p-3.ensures c.put_rows.ensures))
+    wrote_then c.put_rows-p.ensures (wrote_then c.put_rows-p-2.ensures (wrote_then c.put_rows-p-3.ensures c.put_rows.ensures))

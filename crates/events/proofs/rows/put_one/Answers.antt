@@ -1,4 +1,3 @@
-use borrow.Author.Rules.{rules}
 use Rattle.wire.proofs.Writers.{room_kept, wrote_kept, wrote_none}
 use Rattle.events.specs.Inner.{one_bytes}
 use Rattle.events.proofs.Laws.{only_in}

@@ -1,12 +1,7 @@
-use Prim.Native.Nat.{◌-◌, ◌≤◌}
 use native.Mathlib.Omega.{arith}
-use Rattle.wire.proofs.Writers.{Left, left_start, range_room, range_step, range_done}
-use Rattle.events.specs.Inner.{range_bytes}
+use Rattle.wire.proofs.Writers.{range_room, range_step, range_done}
 use Rattle.events.proofs.Laws.{only_in}
 use Rattle.events.proofs.rows.put_range.Goals as goal
-
-pub loop-j-init : goal.loop-j-init
-loop-j-init c = (omega arith, left_start)
 
 pub put_row-p-requires : goal.put_row-p-requires
 put_row-p-requires c =
@@ -18,9 +13,6 @@ pub loop-j-preserved : goal.loop-j-preserved
 loop-j-preserved c =
     let l = c.loop-j in
     (omega arith, range_step _ l.j _ l.invariant.1 c.loop-j-test.true c.put_row-p.ensures)
-
-pub shape_of-out : goal.shape_of-out
-shape_of-out c = c.loop-j.invariant.1.same
 
 pub returns : goal.returns
 returns c = range_done _ _ _ c.loop-j.invariant.1 c.loop-j-test.false

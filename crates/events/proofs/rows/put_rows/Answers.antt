@@ -1,6 +1,5 @@
 use Prim.Native.Nat.{◌+◌}
 use native.Mathlib.Omega.{arith}
-use borrow.Author.Rules.{rules}
 use Rattle.wire.proofs.Writers.{room_kept, wrote_kept, wrote_none}
 use Rattle.players.specs.Inner.{Ranges}
 use Rattle.events.specs.Inner.{rows_bytes}
@@ -20,9 +19,8 @@ overflow_cast-b c = omega (arith, c.shared_slice_known-then-m-2-1.given (c.args.
 pub put_range-requires : goal.put_range-requires
 unfolding rows_bytes
 put_range-requires c =
-    let s = c in
     let r = ranges (goal.at.put_range-requires c).Then-m in
-    (s.requires.0.laid, r.rising s.args.i s.requires.1, r.inside (s.args.i + 1) (omega (arith, s.requires.1)), room_kept _ _ c.if-m.true s.requires.2)
+    (c.requires.0.laid, r.rising c.args.i c.requires.1, r.inside (c.args.i + 1) (omega (arith, c.requires.1)), room_kept _ _ c.if-m.true c.requires.2)
 
 pub returns-then-m : goal.returns-then-m
 unfolding rows_bytes

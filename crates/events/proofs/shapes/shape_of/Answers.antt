@@ -1,7 +1,6 @@
 use mathlib.Core.Path.{refl, ap, ◌∙◌}
 use Prim.Native.Nat.{◌*◌, ◌≤◌}
 use native.Mathlib.Omega.{arith}
-use borrow.Author.Rules.{rules}
 use Rattle.format.specs.Event.{code_of}
 use Rattle.players.proofs.CountLaws.{rows_most, product_small}
 use Rattle.events.proofs.shapes.shape_of.Goals as goal

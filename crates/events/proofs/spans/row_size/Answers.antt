@@ -1,5 +1,4 @@
 use native.Mathlib.Omega.{arith}
-use borrow.Author.Rules.{rules}
 use Rattle.events.proofs.PlaceLaws.{size_given, size_none}
 use Rattle.events.proofs.spans.row_size.Goals as goal
 

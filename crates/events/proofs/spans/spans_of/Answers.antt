@@ -1,33 +1,24 @@
 use mathlib.Core.Path.{ap₂}
 use Prim.Native.Nat.{ℕ, ◌+◌, ◌*◌}
 use native.Mathlib.Omega.{arith}
-use borrow.Author.Rules.{rules}
 use Rattle.events.proofs.PlaceLaws.{team_small}
 use Rattle.events.proofs.spans.spans_of.Goals as goal
 
 pub overflow_mul-result : goal.overflow_mul-result
 overflow_mul-result c =
-    let c9 = c in
-    let s = c9 in omega (arith, team_small c.seats_in-n.result s.args.shapes.pre.bytes c.seats_in-n.ensures.1 s.requires.1.pre)
+    omega (arith, team_small c.seats_in-n.result c.args.shapes.pre.bytes c.seats_in-n.ensures.1 c.requires.1.pre)
 
 pub overflow_add-result-2 : goal.overflow_add-result-2
 overflow_add-result-2 c =
-    let c7 = c in
-    let c9 = c7 in
-    let s = c9 in
-    omega (arith, team_small c7.seats_in-n.result s.args.shapes.pre.bytes c7.seats_in-n.ensures.1 s.requires.1.pre, c.row_size-start.ensures.1)
+    omega (arith, team_small c.seats_in-n.result c.args.shapes.pre.bytes c.seats_in-n.ensures.1 c.requires.1.pre, c.row_size-start.ensures.1)
 
 pub overflow_mul-result-2 : goal.overflow_mul-result-2
 overflow_mul-result-2 c =
-    let c10 = c in
-    let s = c10 in omega (arith, team_small c.seats_in-n.result s.args.shapes.post.bytes c.seats_in-n.ensures.1 s.requires.1.post)
+    omega (arith, team_small c.seats_in-n.result c.args.shapes.post.bytes c.seats_in-n.ensures.1 c.requires.1.post)
 
 pub overflow_add-result-4 : goal.overflow_add-result-4
 overflow_add-result-4 c =
-    let c8 = c in
-    let c10 = c8 in
-    let s = c10 in
-    omega (arith, team_small c8.seats_in-n.result s.args.shapes.post.bytes c8.seats_in-n.ensures.1 s.requires.1.post, c.row_size-end.ensures.1)
+    omega (arith, team_small c.seats_in-n.result c.args.shapes.post.bytes c.seats_in-n.ensures.1 c.requires.1.post, c.row_size-end.ensures.1)
 
 pub returns : goal.returns
 returns c =

@@ -8,6 +8,3 @@ use Rattle.final_file.proofs.runs.next_kept.Given as goal
 abbrev pub invariant-loop-k : goal.invariant-loop-k
 invariant-loop-k l =
     (l.i ≤ l.k) × (l.k ≤ length l.mask) × ((j : ℕ) → l.i ≤ j → j < l.k → get_or l.mask j 0 ≡ 0 → ⊥)
-
-abbrev pub decreases-loop-k : goal.decreases-loop-k
-decreases-loop-k l = length l.mask - l.k

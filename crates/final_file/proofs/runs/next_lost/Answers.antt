@@ -25,4 +25,5 @@ loop-k-preserved c = (
 
 pub returns : goal.returns
 returns c =
-    record { low = c.loop-k.invariant.0; high = c.loop-k.invariant.1; kept = c.loop-k.invariant.2; lost = λ h. absurd (omega arith) }
+    let end : length c.args.mask.now ≤ c.loop-k.k = c.loop-k-test.false in
+    record { low = c.requires; high = omega arith; kept = λ j a b. c.loop-k.invariant.2 j a (omega (arith, b, end)); lost = λ h. absurd (omega (arith, h)) }

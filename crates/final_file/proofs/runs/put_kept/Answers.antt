@@ -6,14 +6,14 @@ use Rattle.wire.proofs.Writers.{Left, room_as, wrote_as}
 use Rattle.game.specs.Stores.{Lent, cells, offsets, lent}
 use Rattle.events.proofs.Laws.{run_is, supplied_of}
 use Rattle.final_file.specs.Inner.{kept_bytes}
+use Rattle.game.specs.Held.{lent_in}
 use Rattle.final_file.proofs.Splits.{rest, start, run_room, run_step, goes_on, done}
 use Rattle.final_file.proofs.runs.put_kept.Goals as goal
 use Rattle.final_file.proofs.runs.put_kept.Goals.{Start}
 
 abbrev stores : (s : Start) → Lent
 stores s =
-    lent (cells s.args.ids.now s.args.starts.now s.args.pres.now s.args.posts.now s.args.ends.now s.args.items.now s.args.fods.now s.args.whispys.now s.args.stadiums.now)
-    (offsets s.args.item_offsets.now s.args.fod_offsets.now s.args.whispy_offsets.now s.args.stadium_offsets.now) s.args.presence.now
+    lent_in s.args.lent.now
 
 pub shapes_of-shapes-requires : goal.shapes_of-shapes-requires
 shapes_of-shapes-requires c = c.requires.0.modest

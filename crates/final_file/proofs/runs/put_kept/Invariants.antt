@@ -4,7 +4,7 @@ use Prim.Native.Nat.{◌-◌, ◌≤◌}
 use native.Mathlib.Omega.{arith}
 use lib.ListN.{length}
 use Rattle.wire.proofs.Writers.{Left, room_as, wrote_as}
-use Rattle.game.specs.Stores.{Lent, cells, offsets, lent}
+use Rattle.game.specs.Held.{lent_in}
 use Rattle.events.proofs.Laws.{run_is, supplied_of}
 use Rattle.final_file.specs.Inner.{kept_bytes}
 use Rattle.final_file.proofs.Splits.{rest, start, run_room, run_step, goes_on, done}
@@ -12,7 +12,7 @@ use Rattle.final_file.proofs.runs.put_kept.Given as goal
 
 abbrev pub invariant-loop-i : goal.invariant-loop-i
 invariant-loop-i l =
-    (let all = lent (cells l.ids l.starts l.pres l.posts l.ends l.items l.fods l.whispys l.stadiums) (offsets l.item_offsets l.fod_offsets l.whispy_offsets l.stadium_offsets) l.presence in
+    (let all = lent_in l.lent in
     (l.i ≤ length l.mask) × Left l.initial.out l.at (kept_bytes l.mask l.f all) l.out l.p (rest l.mask l.f all l.i))
 
 abbrev pub decreases-loop-i : goal.decreases-loop-i

@@ -3,8 +3,8 @@ use Prim.Native.Nat.{◌*◌, ◌≤◌}
 use native.Mathlib.Nat.{mul-le-mul}
 use native.Mathlib.Omega.{arith}
 use Rattle.game.specs.Stores.{offsets}
+use Rattle.game.specs.Held.{offsets_in}
 use Rattle.final_rows.proofs.Lengths.{frame_adds}
-use borrow.Author.Rules.{rules}
 use Rattle.final_rows.proofs.sizes.frame_len.Goals as goal
 use Rattle.final_rows.proofs.sizes.frame_len.Goals.{After-struct_known-1}
 
@@ -27,5 +27,5 @@ overflow_add-result-5 c =
 pub returns : goal.returns
 returns c =
     let a = c.args in
-    frame_adds a.f (offsets a.item_offsets.now a.fod_offsets.now a.whispy_offsets.now a.stadium_offsets.now) a.presence.now a.i a.z _ _ _ _ _ c.requires.2
+    frame_adds a.f (offsets_in a.offsets.now) a.presence.now a.i a.z _ _ _ _ _ c.requires.2
     c.players_in-players.ensures.0 c.rows_len-fods.ensures.0 c.rows_len-whispys.ensures.0 c.rows_len-stadiums.ensures.0 c.rows_len-items.ensures.0

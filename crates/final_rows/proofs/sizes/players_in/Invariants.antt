@@ -1,19 +1,11 @@
 -- The invariant: the players counted, and those of the slots to come, are all.
-use mathlib.Core.Path.{◌≡◌, ap}
-use mathlib.Core.List.{List}
-use Prim.Native.Nat.{ℕ, ◌+◌, ◌-◌, ◌≤◌}
-use native.Mathlib.Omega.{arith}
+use mathlib.Core.Path.{◌≡◌}
+use Prim.Native.Nat.{◌+◌, ◌≤◌}
 use lib.ListN.{drop}
-use Rattle.game.specs.Frames.{Slot}
 use Rattle.players.specs.Inner.{slots_in}
 use Rattle.events.specs.Length.{players_over}
-use Rattle.append.proofs.Lengths.{over_done}
-use Rattle.final_rows.proofs.Lengths.{slot_in_lem, slot_out}
 use Rattle.final_rows.proofs.sizes.players_in.Given as goal
 
 abbrev pub invariant-loop-k : goal.invariant-loop-k
 invariant-loop-k l =
     (l.k ≤ l.s.count) × (l.n ≤ l.k) × (l.s.count ≤ 8) × (l.n + players_over l.presence (drop l.k (slots_in l.s)) l.i 1 ≡ players_over l.presence (slots_in l.s) l.i 1)
-
-abbrev pub decreases-loop-k : goal.decreases-loop-k
-decreases-loop-k l = l.s.count - l.k

@@ -5,7 +5,6 @@ use lib.ListN.{get_or}
 use Rattle.game.specs.Frames.{rows_of}
 use Rattle.players.specs.Inner.{Ranges}
 use Rattle.final_rows.proofs.Lengths.{size_has, no_rows, rows_few, rows_small}
-use borrow.Author.Rules.{rules}
 use Rattle.final_rows.proofs.sizes.rows_len.Goals as goal
 use Rattle.final_rows.proofs.sizes.rows_len.Goals.{Else-size-eq0}
 

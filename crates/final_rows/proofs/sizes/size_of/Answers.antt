@@ -1,6 +1,5 @@
 use native.Mathlib.Omega.{arith}
 use Rattle.final_rows.proofs.Lengths.{size_is, size_none}
-use borrow.Author.Rules.{rules}
 use Rattle.final_rows.proofs.sizes.size_of.Goals as goal
 
 pub returns-then-exists : goal.returns-then-exists

@@ -1,34 +1,32 @@
-use mathlib.Core.Path.{◌≡◌, sym, ◌∙◌}
-use Prim.Native.Nat.{◌-◌, ◌≤◌}
+use mathlib.Core.Path.{◌≡◌, sym, ap, ◌∙◌}
+use mathlib.Core.List.{List}
+use Prim.Native.Nat.{ℕ, ◌+◌, ◌*◌}
 use native.Mathlib.Omega.{arith}
+use Rattle.std.proofs.lemmas.Grind.{div_ceil_times}
+use lib.Dec.{lit<}
+use lib.ListN.{length, get_or}
 use Rattle.rollback.specs.Mask.{needed}
-use Rattle.final_rows.proofs.Marks.{Swept, swept_none, swept_more, swept_all}
+use Rattle.final_rows.proofs.Marks.{zero_at, swept_none, swept_more, swept_all}
 use Rattle.final_rows.proofs.windows.mask_rows.Goals as goal
 
-pub loop-base-init : goal.loop-base-init
-loop-base-init c =
-    (omega (arith, c.scratch_len-need.ensures, c.requires.1), c.scratch_len-need.ensures, omega arith, swept_none (c.clear.ensures.0 ∙ c.requires.0) c.clear.ensures.1)
+pub loop-w-init : goal.loop-w-init
+loop-w-init c =
+    let zeros = c.fill.ensures.after (λ y e. e) in
+    swept_none (c.fill.ensures.len ∙ c.requires.0) (λ i. ap (λ (xs : List ℕ). get_or xs i 0) zeros ∙ zero_at (length c.args.mask.now) i)
 
 pub window_mask-requires : goal.window_mask-requires
 window_mask-requires c =
-    (c.loop-base.invariant.3.long, omega (arith, c.loop-base.invariant))
+    (c.loop-w.invariant.long, c.requires.1)
 
-pub overflow_add-base : goal.overflow_add-base
-overflow_add-base c =
-    omega (arith, c.loop-base.invariant, c.loop-base-test.true)
-
-pub loop-base-smaller : goal.loop-base-smaller
-loop-base-smaller c =
-    omega (arith, c.loop-base-test.true)
-
-pub loop-base-preserved : goal.loop-base-preserved
-loop-base-preserved c =
-    (c.loop-base.invariant.0, c.loop-base.invariant.1, omega (arith, c.loop-base-test.true, c.loop-base.invariant), swept_more c.loop-base.invariant.3 c.window_mask.ensures)
+pub loop-w-preserved : goal.loop-w-preserved
+loop-w-preserved c =
+    let e : c.loop-w.w * 32768 + 32768 ≡ (c.loop-w.w + 1) * 32768 = omega arith in
+    rw e at (swept_more c.loop-w.invariant c.window_mask.ensures)
 
 pub shape_of-mask : goal.shape_of-mask
 shape_of-mask c =
-    c.loop-base.invariant.3.long ∙ sym c.requires.0
+    c.loop-w.invariant.long ∙ sym c.requires.0
 
 pub returns : goal.returns
 returns c =
-    swept_all c.loop-base.invariant.3 (omega (arith, c.loop-base.invariant, c.loop-base-test.false))
+    swept_all c.loop-w.invariant (omega (arith, c.scratch_len.ensures, c.div_ceil-w-end.ensures, (div_ceil_times (needed c.args.ids.now) 32768 (lit< tt)).0, c.loop-w-test.false))

@@ -1,6 +1,5 @@
 use native.Mathlib.Omega.{arith}
 use Rattle.final_rows.proofs.Marks.{before_window, after_window, in_window_lem}
-use borrow.Author.Rules.{rules}
 use Rattle.final_rows.proofs.windows.seen.Goals as goal
 
 pub returns-then-p-base : goal.returns-then-p-base

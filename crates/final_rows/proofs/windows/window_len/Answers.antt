@@ -8,6 +8,7 @@ use Rattle.wire.proofs.Sums.{summed}
 use Rattle.game.specs.Stores.{offsets}
 use Rattle.final_rows.specs.Inner.{length_of, lost_here}
 use Rattle.rollback.proofs.Places.{placed}
+use Rattle.game.specs.Held.{offsets_in}
 use Rattle.final_rows.proofs.Marks.{Seen, seen_none, turn_seen, turn_read}
 use Rattle.final_rows.proofs.Sums.{back_most, back_in, back_out, summed_none}
 use Rattle.final_rows.proofs.windows.window_len.Goals as goal
@@ -33,7 +34,7 @@ frame_len-n-requires c =
 -- row k - 1 is not final, so its bytes are added
 added : (c : After-frame_len-n)
     → let a = c.args in
-    let o = offsets a.item_offsets.now a.fod_offsets.now a.whispy_offsets.now a.stadium_offsets.now in
+    let o = offsets_in a.offsets.now in
     c.loop-k.n + length_of a.f o a.presence.now (c.loop-k.k - 1)
     ≡ summed (λ i. cond (lost_here a.ids.now a.base i) (length_of a.f o a.presence.now i) 0) (c.loop-k.k - 1) (length a.ids.now - (c.loop-k.k - 1))
 added c =
@@ -41,15 +42,15 @@ added c =
     let ok = placed c.args.ids.now c.shared_slice_known-in-loop-k-1.given c.requires.1.range in
     let here = c.place_of-p.ensures.0 in
     let lost = turn_read c.loop-k.invariant.1 test c.loop-k.invariant.0 here ok c.seen.ensures.0 in
-    back_in (lost_here c.args.ids.now c.args.base) (length_of c.args.f (offsets c.args.item_offsets.now c.args.fod_offsets.now c.args.whispy_offsets.now c.args.stadium_offsets.now) c.args.presence.now) (length c.args.ids.now) c.loop-k.k
+    back_in (lost_here c.args.ids.now c.args.base) (length_of c.args.f (offsets_in c.args.offsets.now) c.args.presence.now) (length c.args.ids.now) c.loop-k.k
     c.loop-k.n c.loop-k.invariant.0 c.loop-k.invariant.2 test (sym lost ∙ c.if-seen.true)
 
 most : (c : After-frame_len-n)
     → let a = c.args in
-    let o = offsets a.item_offsets.now a.fod_offsets.now a.whispy_offsets.now a.stadium_offsets.now in
+    let o = offsets_in a.offsets.now in
     c.loop-k.n + length_of a.f o a.presence.now (c.loop-k.k - 1) ≤ summed (length_of a.f o a.presence.now) 0 (length a.ids.now)
 most c =
-    back_most (lost_here c.args.ids.now c.args.base) (length_of c.args.f (offsets c.args.item_offsets.now c.args.fod_offsets.now c.args.whispy_offsets.now c.args.stadium_offsets.now) c.args.presence.now) (length c.args.ids.now) (c.loop-k.k - 1) _
+    back_most (lost_here c.args.ids.now c.args.base) (length_of c.args.f (offsets_in c.args.offsets.now) c.args.presence.now) (length c.args.ids.now) (c.loop-k.k - 1) _
     (omega (arith, c.loop-k.invariant.0)) (added c)
 
 pub overflow_add-n : goal.overflow_add-n
@@ -68,12 +69,12 @@ loop-k-preserved c =
     let lost = turn_read c.loop-k.invariant.1 c.loop-k-test.true c.loop-k.invariant.0 here ok c.seen.ensures.0 in (
       omega arith,
       turn_seen c.loop-k.invariant.1 c.loop-k-test.true c.loop-k.invariant.0 here c.seen.ensures.1,
-      back_out (lost_here c.args.ids.now c.args.base) (length_of c.args.f (offsets c.args.item_offsets.now c.args.fod_offsets.now c.args.whispy_offsets.now c.args.stadium_offsets.now) c.args.presence.now) (length c.args.ids.now) c.loop-k.k
+      back_out (lost_here c.args.ids.now c.args.base) (length_of c.args.f (offsets_in c.args.offsets.now) c.args.presence.now) (length c.args.ids.now) c.loop-k.k
           c.loop-k.n c.loop-k.invariant.0 c.loop-k.invariant.2 c.loop-k-test.true (sym lost ∙ c.if-seen.false),
     )
 
 pub returns : goal.returns
 returns c =
     let e : c.loop-k.k ≡ 0 = omega arith in
-    let lost : ℕ → ℕ = λ i. cond (lost_here c.args.ids.now c.args.base i) (length_of c.args.f (offsets c.args.item_offsets.now c.args.fod_offsets.now c.args.whispy_offsets.now c.args.stadium_offsets.now) c.args.presence.now i) 0 in
+    let lost : ℕ → ℕ = λ i. cond (lost_here c.args.ids.now c.args.base i) (length_of c.args.f (offsets_in c.args.offsets.now) c.args.presence.now i) 0 in
     c.loop-k.invariant.2 ∙ ap (λ (k : ℕ). summed lost k (length c.args.ids.now - k)) e ∙ ap (summed lost 0) (sub-zero (length c.args.ids.now))

@@ -1,9 +1,8 @@
 use Rattle.rollback.proofs.Places.{placed}
-use Rattle.final_rows.proofs.Marks.{seen_none, turn_seen, turn_read, lost_none, lost_set, lost_skip, lost_long, Seen}
+use Rattle.final_rows.proofs.Marks.{seen_none, turn_seen, turn_read, lost_none, lost_set, lost_skip, lost_long}
 use mathlib.Core.Path.{◌≡◌, refl, sym, subst, ◌∙◌}
-use Prim.Native.Nat.{ℕ, ◌-◌, ◌≤◌}
+use Prim.Native.Nat.{ℕ}
 use native.Mathlib.Omega.{arith}
-use lib.ListN.{length}
 use Rattle.final_rows.specs.Inner.{Lost}
 use Rattle.final_rows.proofs.windows.window_mask.Goals as goal
 

@@ -1,6 +1,5 @@
 use mathlib.Core.Path.{refl, sym, ◌∙◌}
 use native.Mathlib.Omega.{arith}
-use borrow.Author.Rules.{rules}
 use Rattle.format.proofs.Tests.{other, same, one_here, one_skip, one_last}
 use Rattle.frames.specs.Judge.{strays}
 use Rattle.frames.proofs.offsets.offsets_stray.Goals as goal

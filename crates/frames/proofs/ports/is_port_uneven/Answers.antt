@@ -6,13 +6,11 @@ returns-then-is_uneven c = leader_uneven _ _ _ c.is_uneven.ensures c.if-is_uneve
 
 pub returns-then-has_follower : goal.returns-then-has_follower
 returns-then-has_follower c =
-    let l = c in
-    follower_uneven _ _ _ _ _ l.is_uneven.ensures l.if-is_uneven.false c.has_follower.ensures c.if-has_follower.true c.is_uneven-then-has_follower.ensures
+    follower_uneven _ _ _ _ _ c.is_uneven.ensures c.if-is_uneven.false c.has_follower.ensures c.if-has_follower.true c.is_uneven-then-has_follower.ensures
 
 pub returns : goal.returns
 returns c =
-    let l = c in
-    no_follower _ _ _ _ l.is_uneven.ensures l.if-is_uneven.false c.has_follower.ensures c.if-has_follower.false
+    no_follower _ _ _ _ c.is_uneven.ensures c.if-is_uneven.false c.has_follower.ensures c.if-has_follower.false
 
 pub is_uneven-requires : goal.is_uneven-requires
 is_uneven-requires c = c.requires

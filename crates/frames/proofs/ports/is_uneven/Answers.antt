@@ -1,4 +1,3 @@
-use borrow.Author.Rules.{rules}
 use Rattle.frames.proofs.PortLaws.{even_none, uneven_some}
 use Rattle.frames.proofs.ports.is_uneven.Goals as goal
 

@@ -1,12 +1,12 @@
-use mathlib.Core.Path.{◌≡◌, refl}
+use mathlib.Core.Path.{refl}
 use mathlib.Core.List.{map}
-use Prim.Native.Nat.{ℕ, ◌+◌, ◌-◌, ◌≤◌}
+use Prim.Native.Nat.{ℕ, ◌+◌}
 use native.Mathlib.Omega.{arith}
 use lib.Dec.{eqb}
 use lib.ListN.{drop}
 use Rattle.format.proofs.Tests.{tested}
 use Rattle.format.specs.Refusal.{one_of}
-use Rattle.frames.specs.Judge.{port_numbers, twice}
+use Rattle.frames.specs.Judge.{port_numbers}
 use Rattle.frames.proofs.PortLaws.{length_numbers, twice_here, twice_skip, twice_none}
 use Rattle.frames.proofs.ports.port_twice.Goals as goal
 
@@ -18,17 +18,13 @@ port_number-port-requires c = omega (arith, length_numbers c.args.f)
 
 pub returns-then-port_again : goal.returns-then-port_again
 returns-then-port_again c =
-    let t = c in
-    let l = t in
-    let ns = port_numbers l.args.f in
-    twice_here _ _ l.loop-k.k (omega (arith, length_numbers l.args.f)) (tested (λ (n : ℕ). one_of (map (eqb n) (drop (l.loop-k.k + 1) ns))) t.port_number-port.ensures c.port_again.ensures c.if-port_again.true) l.loop-k.invariant.1
+    let ns = port_numbers c.args.f in
+    twice_here _ _ c.loop-k.k (omega (arith, length_numbers c.args.f)) (tested (λ (n : ℕ). one_of (map (eqb n) (drop (c.loop-k.k + 1) ns))) c.port_number-port.ensures c.port_again.ensures c.if-port_again.true) c.loop-k.invariant.1
 
 pub loop-k-preserved : goal.loop-k-preserved
 loop-k-preserved c =
-    let t = c in
-    let l = t in
-    let ns = port_numbers l.args.f in
-    (omega arith, twice_skip _ _ l.loop-k.k (omega (arith, length_numbers l.args.f)) (tested (λ (n : ℕ). one_of (map (eqb n) (drop (l.loop-k.k + 1) ns))) t.port_number-port.ensures c.port_again.ensures c.if-port_again.false) l.loop-k.invariant.1)
+    let ns = port_numbers c.args.f in
+    (omega arith, twice_skip _ _ c.loop-k.k (omega (arith, length_numbers c.args.f)) (tested (λ (n : ℕ). one_of (map (eqb n) (drop (c.loop-k.k + 1) ns))) c.port_number-port.ensures c.port_again.ensures c.if-port_again.false) c.loop-k.invariant.1)
 
 pub returns : goal.returns
 returns c = twice_none _ _ c.loop-k.k (omega (arith, length_numbers c.args.f)) c.loop-k.invariant.1

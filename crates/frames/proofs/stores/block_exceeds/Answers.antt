@@ -1,10 +1,7 @@
-use mathlib.Core.Path.{◌≡◌, refl, sym, ◌∙◌}
-use Prim.Native.Nat.{◌+◌, ◌*◌, ◌-◌, ◌≤◌}
+use mathlib.Core.Path.{refl, sym, ◌∙◌}
+use Prim.Native.Nat.{◌+◌, ◌*◌, ◌≤◌}
 use native.Mathlib.Omega.{arith}
-use borrow.Author.Rules.{rules}
-use lib.ListN.{length, get_or, drop}
-use Rattle.frames.specs.Judge.{columns_exceed}
-use Rattle.frames.specs.Inner.{run_widths}
+use lib.ListN.{length, get_or}
 use Rattle.frames.proofs.CellLaws.{runs_from, runs_cells, runs_here, runs_skip, runs_done, columns_none}
 use Rattle.frames.proofs.stores.block_exceeds.Goals as goal
 use Rattle.frames.proofs.stores.block_exceeds.Goals.{After-n-1}
@@ -20,9 +17,7 @@ ahead : (c : After-n-1)
     (runs_from c.args.runs (c.loop-k.k + 1)) * c.args.rows)
     ≤ length c.args.cells.now
 ahead c =
-    let l = c in
-    let s = l in
-    omega (arith, l.loop-k.invariant.2, runs_cells s.args.runs s.requires.0 l.loop-k.k c.loop-k-test.true s.args.rows s.args.cells.now)
+    omega (arith, c.loop-k.invariant.2, runs_cells c.args.runs c.requires.0 c.loop-k.k (omega arith) c.args.rows c.args.cells.now)
 
 pub overflow_mul-end : goal.overflow_mul-end
 overflow_mul-end c = omega (arith, ahead c)
@@ -35,24 +30,16 @@ run_exceeds-requires c = omega (arith, ahead c)
 
 pub returns-then-run_exceeds : goal.returns-then-run_exceeds
 returns-then-run_exceeds c =
-    let t = c in
-    let l = t in
-    let s = l in
-    runs_here s.args.runs s.requires.0 l.loop-k.k t.loop-k-test.true _ _ _ l.loop-k.from (sym t.run_exceeds.ensures ∙ c.if-run_exceeds.true) l.loop-k.invariant.3
+    runs_here c.args.runs c.requires.0 c.loop-k.k (omega arith) _ _ _ c.loop-k.from (sym c.run_exceeds.ensures ∙ c.if-run_exceeds.true) c.loop-k.invariant.3
 
 pub loop-k-preserved : goal.loop-k-preserved
-loop-k-preserved c =
-    let t = c in
-    let l = t in
-    let s = l in (
-      omega arith,
-      l.loop-k.invariant.1,
-      omega (arith, ahead (goal.at.loop-k-preserved c).After-n-1),
-      runs_skip s.args.runs s.requires.0 l.loop-k.k t.loop-k-test.true _ _ _ l.loop-k.from (sym t.run_exceeds.ensures ∙ c.if-run_exceeds.false) l.loop-k.invariant.3,
-    )
+loop-k-preserved c = (
+  omega arith,
+  c.loop-k.invariant.1,
+  omega (arith, ahead (goal.at.loop-k-preserved c).After-n-1),
+  runs_skip c.args.runs c.requires.0 c.loop-k.k (omega arith) _ _ _ c.loop-k.from (sym c.run_exceeds.ensures ∙ c.if-run_exceeds.false) c.loop-k.invariant.3,
+)
 
 pub returns : goal.returns
 returns c =
-    let l = c in
-    let s = l in
-    columns_none _ _ _ _ (runs_done s.args.runs s.requires.0 l.loop-k.k c.loop-k-test.false) l.loop-k.invariant.3
+    columns_none _ _ _ _ (runs_done c.args.runs c.requires.0 c.loop-k.k (omega arith)) c.loop-k.invariant.3

@@ -3,7 +3,8 @@ use mathlib.Core.Bool.{false}
 use Rattle.format.proofs.Tests.{one_or, one_last}
 use Rattle.layout.specs.declared.columns.Family.{Family}
 use Rattle.layout.specs.declared.columns.Family.TheVariants.{Pre, Post, FrameStart, Item, FrameEnd, FodPlatform, DreamlandWhispy, StadiumTransformation}
-use Rattle.game.specs.Stores.{cells, cells_of}
+use Rattle.game.specs.Stores.{cells_of}
+use Rattle.game.specs.Held.{cells_in}
 use Rattle.frames.specs.Judge.{misfits, cells_exceed}
 use Rattle.frames.proofs.CellLaws.{stores_fit}
 use Rattle.frames.proofs.stores.cells_exceed.Goals as goal
@@ -12,7 +13,7 @@ use Rattle.frames.proofs.stores.cells_exceed.Goals.{Start}
 -- each family's store fits
 fit : (s : Start) (family : Family)
     → misfits s.args.f family
-    (cells_of (cells s.args.ids.now s.args.starts.now s.args.pres.now s.args.posts.now s.args.ends.now s.args.items.now s.args.fods.now s.args.whispys.now s.args.stadiums.now) family)
+    (cells_of (cells_in s.args.cells.now) family)
     ≡ false
 fit s = stores_fit _ _ s.requires
 
@@ -20,18 +21,12 @@ fit s = stores_fit _ _ s.requires
 pub returns : goal.returns
 unfolding cells_exceed
 returns c =
-    let c7 = c in
-    let c6 = c7 in
-    let c5 = c6 in
-    let c4 = c5 in
-    let c3 = c4 in
-    let c2 = c3 in
-    one_or _ _ _ _ c2.store_exceeds-start.ensures
-    (one_or _ _ _ _ c2.store_exceeds-pre.ensures
-    (one_or _ _ _ _ c3.store_exceeds-post.ensures
-    (one_or _ _ _ _ c4.store_exceeds-end.ensures
-    (one_or _ _ _ _ c5.store_exceeds-item.ensures
-    (one_or _ _ _ _ c6.store_exceeds-fod.ensures (one_or _ _ _ _ c7.store_exceeds-whispy.ensures (one_last _ _ c.store_exceeds-stadium.ensures)))))))
+    one_or _ _ _ _ c.store_exceeds-start.ensures
+    (one_or _ _ _ _ c.store_exceeds-pre.ensures
+    (one_or _ _ _ _ c.store_exceeds-post.ensures
+    (one_or _ _ _ _ c.store_exceeds-end.ensures
+    (one_or _ _ _ _ c.store_exceeds-item.ensures
+    (one_or _ _ _ _ c.store_exceeds-fod.ensures (one_or _ _ _ _ c.store_exceeds-whispy.ensures (one_last _ _ c.store_exceeds-stadium.ensures)))))))
 
 pub store_exceeds-start-requires : goal.store_exceeds-start-requires
 store_exceeds-start-requires c = fit (goal.at.store_exceeds-start-requires c).Start FrameStart

@@ -1,5 +1,4 @@
 use Prim.Native.Nat.{ℕ}
-use borrow.Author.Rules.{rules}
 use Rattle.frames.proofs.CellLaws.{limit_over, wide_enough}
 use Rattle.frames.proofs.stores.run_exceeds.Goals as goal
 

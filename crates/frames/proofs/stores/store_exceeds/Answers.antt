@@ -7,12 +7,10 @@ returns-then-rows-eq0 c = exceeds_none c.args.f c.args.family _ _ c.rows-rows.en
 pub blocks_exceed-requires : goal.blocks_exceed-requires
 blocks_exceed-requires c =
     let p = c.runs_of-runs in
-    let s = c in
-    (whole_runs _ _ _ p.ensures, fits_with s.args.f s.args.family _ s.requires _ _ p.result c.blocks-blocks.ensures.0 p.ensures c.rows-rows.ensures)
+    (whole_runs _ _ _ p.ensures, fits_with c.args.f c.args.family _ c.requires _ _ p.result c.blocks-blocks.ensures.0 p.ensures c.rows-rows.ensures)
 
 pub returns : goal.returns
 returns c =
     let b = c in
     let p = b.runs_of-runs in
-    let s = b in
-    exceeds_as s.args.f s.args.family _ _ _ _ p.result b.blocks-blocks.ensures.0 p.ensures b.rows-rows.ensures c.blocks_exceed.ensures
+    exceeds_as b.args.f b.args.family _ _ _ _ p.result b.blocks-blocks.ensures.0 p.ensures b.rows-rows.ensures c.blocks_exceed.ensures

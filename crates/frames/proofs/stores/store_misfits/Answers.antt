@@ -10,8 +10,7 @@ small : (c : After-blocks-blocks)
     → (c.columns-columns.result * c.rows-rows.result ≤ 134217728)
     × (c.blocks-blocks.result * (c.columns-columns.result * c.rows-rows.result) ≤ 1073741824)
 small c =
-    let s = c in
-    product_small c.blocks-blocks.ensures.1 c.columns-columns.ensures.1 (omega (arith, c.rows-rows.ensures, rows_most s.args.f s.args.family s.requires))
+    product_small c.blocks-blocks.ensures.1 c.columns-columns.ensures.1 (omega (arith, c.rows-rows.ensures, rows_most c.args.f c.args.family c.requires))
 
 pub returns-then-rows-eq0 : goal.returns-then-rows-eq0
 returns-then-rows-eq0 c = misfits_none c.args.f c.args.family _ _ c.rows-rows.ensures c.if-rows-eq0.true
@@ -24,5 +23,4 @@ overflow_mul-result-2 c = omega (arith, (small c).1)
 
 pub returns : goal.returns
 returns c =
-    let s = c in
-    misfits_as s.args.f s.args.family _ _ _ _ c.blocks-blocks.ensures.0 c.columns-columns.ensures.0 c.rows-rows.ensures
+    misfits_as c.args.f c.args.family _ _ _ _ c.blocks-blocks.ensures.0 c.columns-columns.ensures.0 c.rows-rows.ensures

@@ -6,20 +6,13 @@ use Rattle.frames.proofs.stores.stores_misfit.Goals as goal
 pub returns : goal.returns
 unfolding stores_misfit
 returns c =
-    let c8 = c in
-    let c7 = c8 in
-    let c6 = c7 in
-    let c5 = c6 in
-    let c4 = c5 in
-    let c3 = c4 in
-    let c2 = c3 in
     one_or _ _ _ _ refl
-    (one_or _ _ _ _ c2.store_misfits-start.ensures
-    (one_or _ _ _ _ c2.store_misfits-pre.ensures
-    (one_or _ _ _ _ c3.store_misfits-post.ensures
-    (one_or _ _ _ _ c4.store_misfits-end.ensures
-    (one_or _ _ _ _ c5.store_misfits-item.ensures
-    (one_or _ _ _ _ c6.store_misfits-fod.ensures (one_or _ _ _ _ c7.store_misfits-whispy.ensures (one_last _ _ c8.store_misfits-stadium.ensures))))))))
+    (one_or _ _ _ _ c.store_misfits-start.ensures
+    (one_or _ _ _ _ c.store_misfits-pre.ensures
+    (one_or _ _ _ _ c.store_misfits-post.ensures
+    (one_or _ _ _ _ c.store_misfits-end.ensures
+    (one_or _ _ _ _ c.store_misfits-item.ensures
+    (one_or _ _ _ _ c.store_misfits-fod.ensures (one_or _ _ _ _ c.store_misfits-whispy.ensures (one_last _ _ c.store_misfits-stadium.ensures))))))))
 
 pub store_misfits-start-requires : goal.store_misfits-start-requires
 store_misfits-start-requires c = c.requires

@@ -1,16 +1,12 @@
 -- The invariant: the bits of the cells passed, and the cells to come, tell of all.
 use mathlib.Core.List.{map}
 use Prim.Native.Nat.{ℕ, ◌-◌, ◌^◌, ◌≤◌}
-use native.Mathlib.Omega.{arith}
 use lib.Dec.{leb}
 use Rattle.wire.specs.Wire.{part}
 use Rattle.format.specs.Refusal.{one_of}
-use Rattle.frames.proofs.CellLaws.{United, unite_start, unite_step, unite_done}
+use Rattle.frames.proofs.CellLaws.{United}
 use Rattle.frames.proofs.stores.united.Given as goal
 
 abbrev pub invariant-loop-i : goal.invariant-loop-i
 invariant-loop-i l =
     (l.at ≤ l.i) × (l.i ≤ l.end) × ((k : ℕ) → United l.cells l.end l.all l.i (one_of (map (leb (2 ^ k)) (part l.cells l.at (l.end - l.at)))) k)
-
-abbrev pub decreases-loop-i : goal.decreases-loop-i
-decreases-loop-i l = l.end - l.i

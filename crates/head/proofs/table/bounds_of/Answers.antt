@@ -1,10 +1,6 @@
-use borrow.Author.Rules.{rules}
-use borrow.Author.Tests.{leb-true, leb-false}
+use borrow.Author.Tests.{leb-true}
 use native.Mathlib.Omega.{arith}
-use mathlib.Core.Logic.{⊎_elim}
 use mathlib.Core.Path.{sym}
-use Prim.Native.Nat.{◌+◌}
-use lib.ListN.{length}
 use Rattle.head.proofs.Filled.{zero_data, cut_data, whole_data}
 use Rattle.head.proofs.table.bounds_of.Goals as goal
 use Rattle.head.proofs.table.bounds_of.Goals.{else-declared-gt0-via-then-declared-gt0+else-declared-file, else-declared-gt0-via-else-declared-gt0}

@@ -1,4 +1,3 @@
-use borrow.Author.Rules.{rules}
 use Rattle.head.proofs.Heads.{by_size, by_none}
 use Rattle.head.proofs.table.first_place.Goals as goal
 

@@ -1,4 +1,3 @@
-use borrow.Author.Rules.{rules}
 use native.Mathlib.Omega.{arith}
 use Rattle.wire.proofs.Laws.{pair_is}
 use Rattle.head.proofs.table.size_at.Goals as goal

@@ -1,5 +1,4 @@
 -- `head::table::table_missing` meets its contract: each test, in the order of the definition.
-use borrow.Author.Rules.{rules}
 use borrow.Author.Tests.{lt-ltb, le-ltb, eq-eqb, ne_eqb}
 use native.Mathlib.Omega.{arith}
 use mathlib.Core.Path.{sym}
@@ -29,7 +28,6 @@ returns-then-size-ne1 c =
 pub returns : goal.returns
 unfolding table_missing
 returns c =
-    let s = c in
-    let f = s.args.file.now in
+    let f = c.args.file.now in
     sym
-    (simp (le-ltb (stop_of f) 17 (omega arith), eq-eqb (get_or f 15 0) 0x35 (omega arith), eq-eqb (get_or f 16 0 % 3) 1 (omega arith), s.requires.0, c.wide-size.ensures.0))
+    (simp (le-ltb (stop_of f) 17 (omega arith), eq-eqb (get_or f 15 0) 0x35 (omega arith), eq-eqb (get_or f 16 0 % 3) 1 (omega arith), c.requires.0, c.wide-size.ensures.0))

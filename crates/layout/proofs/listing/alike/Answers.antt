@@ -1,8 +1,6 @@
 use mathlib.Core.Path.{◌≡◌}
-use Prim.Native.Nat.{◌+◌, ◌-◌, ◌≤◌, ◌<◌}
+use Prim.Native.Nat.{◌-◌}
 use native.Mathlib.Omega.{arith}
-use lib.ListN.{replicate}
-use Rattle.wire.specs.Wire.{part}
 use Rattle.layout.proofs.Runs.{run_start, run_more}
 use Rattle.layout.proofs.listing.alike.Goals as goal
 
@@ -18,4 +16,4 @@ loop-m-preserved c =
     (omega arith, omega arith, run_more _ _ l.m _ (omega arith) c.if-widths-k.false l.invariant.2)
 
 pub returns : goal.returns
-returns c = c.loop-m.invariant
+returns c = let e : c.loop-m.m ≡ c.args.n - c.args.k = omega arith in rw e at c.loop-m.invariant

@@ -1,5 +1,4 @@
 -- `layout::listing::columns` meets its contract: the code's table is the definition's.
-use borrow.Author.Rules.{rules}
 use Rattle.layout.specs.Columns.{columns_of}
 use Rattle.layout.specs.Inner.{table}
 use Rattle.layout.proofs.Laws.{packed, unpacked}

@@ -1,11 +1,8 @@
-use mathlib.Core.Path.{◌≡◌, ◌∙◌}
-use Prim.Native.Nat.{◌-◌, ◌≤◌}
+use mathlib.Core.Path.{◌∙◌}
+use Prim.Native.Nat.{◌-◌}
 use native.Mathlib.Omega.{arith}
-use lib.ListN.{length}
 use Rattle.format.specs.Version.{gte_of}
 use Rattle.format.proofs.Tests.{tested}
-use Rattle.layout.specs.Columns.{widths_of}
-use Rattle.layout.specs.Inner.{count_of}
 use Rattle.layout.specs.declared.columns.Column.{Column}
 use Rattle.layout.proofs.Laws.{table_long, fits, count_is, column_in, small}
 use Rattle.layout.proofs.Prefix.{at_most, last_had, not_had}
@@ -13,9 +10,6 @@ use Rattle.layout.proofs.listing.had.Goals as goal
 
 pub loop-n-init : goal.loop-n-init
 loop-n-init c = let a = c.args in (omega (arith, c.count-n.ensures), omega (arith, c.count-n.ensures, at_most a.f a.v))
-
-pub overflow_sub-n : goal.overflow_sub-n
-overflow_sub-n c = omega (arith, c.loop-n-test.true)
 
 pub overflow_add-first : goal.overflow_add-first
 overflow_add-first c = omega (arith, fits c.args.f, c.first.ensures, c.loop-n.invariant.0)
@@ -25,33 +19,24 @@ offset_bounds-all-first c = omega (arith, fits c.args.f, c.first.ensures, c.loop
 
 pub bounds-all-first : goal.bounds-all-first
 bounds-all-first c =
-    let s = c in
-    omega (arith, table_long s.args.all.now s.requires, fits s.args.f, c.first.ensures, c.loop-n.invariant.0, c.loop-n-test.true)
+    omega (arith, table_long c.args.all.now c.requires, fits c.args.f, c.first.ensures, c.loop-n.invariant.0, c.loop-n-test.true)
 
 pub returns-then-gte : goal.returns-then-gte
 returns-then-gte c =
-    let s = c in
-    let a = s.args in
+    let a = c.args in
     let l = c.loop-n in
     let t = c.loop-n-test.true in
-    let column = c.column_of-c.ensures ∙ column_in a.all.now s.requires a.f _ (l.n - 1) c.first.ensures (omega (arith, l.invariant.0, t)) in
+    let column = c.column_of-c.ensures ∙ column_in a.all.now c.requires a.f _ (l.n - 1) c.first.ensures (omega (arith, l.invariant.0, t)) in
     let k = tested (λ (x : Column). gte_of a.v x.major x.minor) column c.gte.ensures c.if-gte.true in
     let h = last_had a.f a.v (l.n - 1) (omega (arith, l.invariant.0, t, count_is a.f)) k in
     (omega (arith, l.invariant.1, h, t), omega (arith, l.invariant.0, small a.f))
 
-pub overflow_sub-n-in-loop-n : goal.overflow_sub-n-in-loop-n
-overflow_sub-n-in-loop-n c = omega (arith, c.loop-n-test.true)
-
-pub loop-n-smaller : goal.loop-n-smaller
-loop-n-smaller c = omega (arith, c.loop-n-test.true)
-
 pub loop-n-preserved : goal.loop-n-preserved
 loop-n-preserved c =
-    let s = c in
-    let a = s.args in
+    let a = c.args in
     let l = c.loop-n in
     let t = c.loop-n-test.true in
-    let column = c.column_of-c.ensures ∙ column_in a.all.now s.requires a.f _ (l.n - 1) c.first.ensures (omega (arith, l.invariant.0, t)) in
+    let column = c.column_of-c.ensures ∙ column_in a.all.now c.requires a.f _ (l.n - 1) c.first.ensures (omega (arith, l.invariant.0, t)) in
     let k = tested (λ (x : Column). gte_of a.v x.major x.minor) column c.gte.ensures c.if-gte.false in
     (omega (arith, l.invariant.0), not_had a.f a.v (l.n - 1) (omega (arith, l.invariant.0, t, count_is a.f)) k)
 

@@ -1,11 +1,8 @@
 -- The invariant: the runs so far stand for the first k widths.
-use mathlib.Core.Path.{◌≡◌, refl, sym, ap, ◌∙◌}
-use Prim.Native.Nat.{ℕ, ◌-◌, ◌≤◌}
-use native.Mathlib.Omega.{arith}
-use borrow.Author.Rules.{rules}
-use lib.ListN.{length, take, length-set}
+use mathlib.Core.Path.{◌≡◌}
+use Prim.Native.Nat.{◌-◌, ◌≤◌}
+use lib.ListN.{length, take}
 use Rattle.layout.specs.Inner.{expand}
-use Rattle.layout.proofs.Runs.{runs_more}
 use Rattle.layout.proofs.listing.runs_of.Given as goal
 
 abbrev pub invariant-loop-k : goal.invariant-loop-k

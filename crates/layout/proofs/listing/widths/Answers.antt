@@ -1,13 +1,12 @@
-use mathlib.Core.Path.{◌≡◌, refl, sym, ap, ◌∙◌}
-use Prim.Native.Nat.{ℕ, ◌+◌, ◌*◌, ◌-◌, ◌≤◌, ◌<◌}
+use mathlib.Core.Path.{◌≡◌, refl, ap, ◌∙◌}
+use Prim.Native.Nat.{ℕ, ◌+◌, ◌<◌}
 use native.Mathlib.Omega.{arith}
-use borrow.Author.Rules.{rules}
 use lib.ListN.{length, take, get_or, length-set}
 use Rattle.layout.specs.Columns.{col, columns_of, sum, widths_of}
 use Rattle.layout.specs.Inner.{count_of, table}
 use Rattle.layout.specs.declared.columns.Column.{Column}
 use Rattle.layout.proofs.Laws.{packed, unpacked, fits, column_in, sum_take, narrow_of, sum_narrow}
-use Rattle.layout.proofs.Prefix.{at_most, copied_step, copied_done, widths}
+use Rattle.layout.proofs.Prefix.{at_most, copied_step, copied_done}
 use Rattle.layout.proofs.listing.widths.Goals as goal
 use Rattle.layout.proofs.listing.widths.Goals.{After-column_of-c, In-loop-i}
 
@@ -86,9 +85,3 @@ bounds-widths-i c = omega (arith, c.loop-i-test.true, c.loop-i.invariant.2, c.ha
 
 pub overflow_add-bytes : goal.overflow_add-bytes
 overflow_add-bytes c = omega (arith, c.loop-i.invariant.1, c.wide-bytes.ensures.1, c.loop-i-test.true, c.had-count.ensures.1)
-
-pub overflow_add-i : goal.overflow_add-i
-overflow_add-i c = omega (arith, c.loop-i-test.true, c.had-count.ensures.1)
-
-pub loop-i-smaller : goal.loop-i-smaller
-loop-i-smaller c = omega (arith, c.loop-i-test.true)

@@ -1,6 +1,5 @@
 use mathlib.Core.Path.{sym, ◌∙◌}
 use native.Mathlib.Omega.{arith}
-use borrow.Author.Rules.{rules}
 use Rattle.layout.specs.Payloads.{end_size}
 use Rattle.layout.proofs.payloads.end_size.Goals as goal
 

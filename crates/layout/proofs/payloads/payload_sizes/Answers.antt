@@ -1,57 +1,44 @@
-use mathlib.Core.Path.{◌≡◌, refl, sym, ap, ◌∙◌}
-use Prim.Native.Nat.{◌-◌, ◌≤◌}
+use mathlib.Core.Path.{refl, sym, ap, ap₂, ◌∙◌}
+use mathlib.Core.List.{map}
+use Prim.Native.Nat.{ℕ}
 use native.Mathlib.Omega.{arith}
-use borrow.Author.Rules.{rules}
 use lib.ListN.{length, length-map, length-set}
 use lib.Seq.{length-take-le}
-use Rattle.format.specs.Event.{code_of}
-use Rattle.format.specs.File.{Entry}
-use Rattle.format.specs.declared.event.Event.TheVariants.{Payloads}
-use Rattle.layout.specs.Payloads.{order, listed, payload_size, entries_of}
-use Rattle.layout.proofs.Laws.{Collected, collect_start, collect_take, collect_skip, collect_done}
-use Rattle.layout.proofs.Entries.{codes_of_lem, sizes_of_lem}
+use Rattle.layout.specs.Inner.{entry_as}
+use Rattle.layout.specs.declared.payloads.PayloadSize.{PayloadSize}
+use Rattle.layout.proofs.Laws.{collect_start, collect_take, collect_skip, collect_done}
+use Rattle.layout.proofs.Entries.{entries_are}
 use Rattle.layout.proofs.payloads.payload_sizes.Goals as goal
+use Rattle.layout.proofs.payloads.payload_sizes.Goals.{then-is_listed, else-is_listed}
 
-pub loop-i-init : goal.loop-i-init
-loop-i-init c = (omega arith, omega arith, refl, refl, collect_start _ _ _ _ _, collect_start _ _ _ _ _)
+pub loop-e-init : goal.loop-e-init
+loop-e-init c = (omega arith, refl, collect_start _ _ _ _ _)
 
-pub loop-i-preserved-then-is_listed : goal.loop-i-preserved-then-is_listed
-loop-i-preserved-then-is_listed c =
-    let l = c.loop-i in
-    let e = c.ordered-e.ensures in
-    let t = c.is_listed.ensures ∙ ap (listed _ _) e in
-    let taken = c.if-is_listed.true in (
-      omega arith,
-      omega arith,
-      simp length-set l.invariant.2,
-      simp length-set l.invariant.3,
-      collect_take _ _ _ _ l.i l.n l.codes _ _ (omega arith) (omega arith) (c.code.ensures ∙ ap code_of e) t taken l.invariant.4,
-      collect_take _ _ _ _ l.i l.n l.sizes _ _ (omega arith) (omega arith) (c.payload_size.ensures.0 ∙ ap (payload_size _ _ _) e) t taken l.invariant.5,
-    )
-
-pub loop-i-preserved : goal.loop-i-preserved
-loop-i-preserved c =
-    let l = c.loop-i in
-    let t = c.is_listed.ensures ∙ ap (listed _ _) c.ordered-e.ensures in (
-      omega arith,
-      omega arith,
-      l.invariant.2,
-      l.invariant.3,
-      collect_skip _ _ _ _ l.i l.n l.codes _ (omega arith) t c.if-is_listed.false l.invariant.4,
-      collect_skip _ _ _ _ l.i l.n l.sizes _ (omega arith) t c.if-is_listed.false l.invariant.5,
-    )
+pub loop-e-preserved : goal.loop-e-preserved
+loop-e-preserved c =
+    let l = c.loop-e in
+    elim c.if-is_listed.branch [
+      | then-is_listed w ↦
+          rw (w.len-is, w.entries-is) (
+            omega arith,
+            simp length-set l.invariant.1,
+            collect_take _ _ _ _ l.e-index l.len l.entries _ _ (omega arith) (omega arith)
+                (ap₂ (λ (code size : ℕ). let e : PayloadSize = record { code = code; size = size } in e) w.code.ensures w.payload_size.ensures.0)
+                c.is_listed.ensures w.if-is_listed.true l.invariant.2,
+          )
+      | else-is_listed w ↦
+          rw (w.len-is, w.entries-is)
+          (omega arith, l.invariant.1, collect_skip _ _ _ _ l.e-index l.len l.entries _ (omega arith) c.is_listed.ensures w.if-is_listed.false l.invariant.2)
+    ]
 
 pub returns : goal.returns
 returns c =
-    let l = c.loop-i in
+    let l = c.loop-e in
     let a = c.args in
-    let cs = collect_done _ _ _ _ l.i l.n l.codes (omega arith) l.invariant.4 ∙ sym (codes_of_lem a.v a.block a.given a.actual) in
-    let ss = collect_done _ _ _ _ l.i l.n l.sizes (omega arith) l.invariant.5 ∙ sym (sizes_of_lem a.v a.block a.given a.actual) in
+    let each = ap (map entry_as) (collect_done _ _ _ _ l.e-index l.len l.entries (omega arith) l.invariant.2) ∙ entries_are a.v a.block a.given a.actual in
     record {
-      count = sym (length-take-le l.n l.codes (omega arith)) ∙ ap length cs ∙ length-map (entries_of a.v a.block a.given a.actual) (λ (e : Entry). e.code);
-      codes = cs;
-      sizes = ss;
+      count = sym (length-map _ entry_as ∙ length-take-le l.len l.entries (omega arith)) ∙ ap length each;
+      each = each;
       few = omega arith;
-      codes_room = l.invariant.2;
-      sizes_room = l.invariant.3;
+      room = l.invariant.1;
     }

@@ -1,8 +1,7 @@
 -- `layout::payloads::put_table` meets its contract: a code, a size and the entries, one after the other.
-use mathlib.Core.Path.{sym, ◌∙◌}
-use borrow.Author.Rules.{rules}
+use mathlib.Core.Path.{sym}
 use Rattle.wire.proofs.Writers.{room_as, room_first, room_second, wrote_as, wrote_then}
-use Rattle.layout.proofs.Entries.{table_parts, table_lengths}
+use Rattle.layout.proofs.Entries.{table_parts}
 use Rattle.layout.proofs.payloads.put_table.Goals as goal
 
 pub put_u8-p-requires : goal.put_u8-p-requires
@@ -15,22 +14,10 @@ put_u8-p-requires-2 c =
 
 pub put_entries-requires : goal.put_entries-requires
 put_entries-requires c =
-    let e = c.payload_sizes-t.ensures in
-    let r = room_as (table_parts _ _ _ c.code.ensures e) c.requires.1 in
-    let (cs, ss) = table_lengths _ _ e in
-    (sym cs ∙ ss, room_second (room_second r c.put_u8-p.ensures) c.put_u8-p-2.ensures)
+    let r = room_as (table_parts _ _ _ c.code.ensures c.payload_sizes-t.ensures) c.requires.1 in
+    room_second (room_second r c.put_u8-p.ensures) c.put_u8-p-2.ensures
 
 pub returns : goal.returns
 returns c =
-    let c8 = c in
-    let c12 = c8 in
-    let c13 = c12 in
-    let c17 = c13 in
-    wrote_as (sym (table_parts _ _ _ c13.code.ensures c17.payload_sizes-t.ensures))
-    (wrote_then c12.put_u8-p.ensures (wrote_then c8.put_u8-p-2.ensures c.put_entries.ensures))
-
-pub slice_bounds-put_entries-end : goal.slice_bounds-put_entries-end
-slice_bounds-put_entries-end c = (table_lengths _ _ c.payload_sizes-t.ensures).0
-
-pub slice_bounds-put_entries-end-2 : goal.slice_bounds-put_entries-end-2
-slice_bounds-put_entries-end-2 c = (table_lengths _ _ c.payload_sizes-t.ensures).1
+    wrote_as (sym (table_parts _ _ _ c.code.ensures c.payload_sizes-t.ensures))
+    (wrote_then c.put_u8-p.ensures (wrote_then c.put_u8-p-2.ensures c.put_entries.ensures))

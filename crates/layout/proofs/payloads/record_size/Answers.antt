@@ -1,7 +1,6 @@
 use mathlib.Core.Path.{ap₂}
 use Prim.Native.Nat.{◌+◌}
 use native.Mathlib.Omega.{arith}
-use borrow.Author.Rules.{rules}
 use Rattle.layout.proofs.Laws.{head_small}
 use Rattle.layout.proofs.payloads.record_size.Goals as goal
 

@@ -1,14 +1,14 @@
-use Rattle.map.proofs.Laws.{worse_first, worse_second, worse_low, worse_high}
+use Rattle.map.proofs.Laws.{lower_first, lower_second, lower_low, lower_high}
 use Rattle.map.proofs.judge.lower.Goals as goal
 
-pub returns-then-a-eq0 : goal.returns-then-a-eq0
-returns-then-a-eq0 c = worse_first _ _ c.if-a-eq0.true
+pub returns-in_default : goal.returns-in_default
+returns-in_default c = lower_first _ c.in_default.is
 
-pub returns-then-b-eq0 : goal.returns-then-b-eq0
-returns-then-b-eq0 c = worse_second _ _ c.if-a-eq0.false c.if-b-eq0.true
+pub returns-in_default-b : goal.returns-in_default-b
+returns-in_default-b c = lower_second c.in-Some.is c.in_default-b.is
 
-pub returns-then-b-a : goal.returns-then-b-a
-returns-then-b-a c = worse_low _ _ c.if-a-eq0.false c.if-b-eq0.false c.if-b-a.true
+pub returns-then-number : goal.returns-then-number
+returns-then-number c = lower_low c.in-Some.is c.in-Some-b.is c.number.ensures c.number-2.ensures c.if-number.true
 
 pub returns : goal.returns
-returns c = worse_high _ _ c.if-a-eq0.false c.if-b-eq0.false c.if-b-a.false
+returns c = lower_high c.in-Some.is c.in-Some-b.is c.number.ensures c.number-2.ensures c.if-number.false

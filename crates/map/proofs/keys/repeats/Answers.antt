@@ -1,4 +1,3 @@
-use mathlib.Core.Path.{sym, ◌∙◌}
 use native.Mathlib.Omega.{arith}
 use Rattle.map.proofs.KeyLaws.{looking_start, looking_away, looking_done, looking_same, looking_more, after_is}
 use Rattle.map.proofs.keys.repeats.Goals as goal
@@ -9,9 +8,6 @@ key_stored-requires c = c.requires
 pub loop-q-init : goal.loop-q-init
 loop-q-init c = looking_start _ _ _ _ _
 
-pub same_key-requires : goal.same_key-requires
-same_key-requires c = (omega (arith, c.loop-q-test.true, c.requires), c.requires, sym c.key_stored.ensures ∙ c.if-key_stored.true)
-
 pub returns-then-same_key : goal.returns-then-same_key
 returns-then-same_key c = looking_same c.key_stored.ensures c.if-key_stored.true c.loop-q.invariant c.loop-q-test.true c.same_key.ensures c.if-same_key.true
 
@@ -19,10 +15,8 @@ pub loop-q-smaller : goal.loop-q-smaller
 loop-q-smaller c = let far = c.skip_rows-q.ensures.2 (omega arith) (omega (arith, c.loop-q-test.true, c.requires)) in omega (arith, far, c.loop-q-test.true)
 
 pub loop-q-preserved : goal.loop-q-preserved
-loop-q-preserved c = let c3 = c in
-    let c9 = c3 in
-    looking_more c3.key_stored.ensures c3.if-key_stored.true c3.loop-q.invariant c3.loop-q-test.true
-    c.same_key.ensures c.if-same_key.false (after_is _ _ _ _ (omega (arith, c3.loop-q-test.true, c9.requires)) c.skip_rows-q.ensures.0)
+loop-q-preserved c = looking_more c.key_stored.ensures c.if-key_stored.true c.loop-q.invariant c.loop-q-test.true
+    c.same_key.ensures c.if-same_key.false (after_is _ _ _ _ (omega (arith, c.loop-q-test.true, c.requires)) c.skip_rows-q.ensures.0)
 
 pub returns-after-loop-q : goal.returns-after-loop-q
 returns-after-loop-q c = looking_done c.key_stored.ensures c.if-key_stored.true c.loop-q.invariant c.loop-q-test.false

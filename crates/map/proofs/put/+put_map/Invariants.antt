@@ -1,3 +1,4 @@
+use Prim.Native.Nat.{◌-◌}
 use mathlib.Core.Path.{◌≡◌}
 use Rattle.wire.proofs.Writers.{Left}
 use Rattle.map.specs.Map.{body_of}
@@ -7,11 +8,8 @@ use Rattle.map.proofs.put.+put_map.Given as goal
 abbrev pub decreases-put_map : goal.decreases-put_map
 decreases-put_map l = l.depth
 
-abbrev pub invariant-loop-left : goal.invariant-loop-left
-invariant-loop-left l =
-    ((map_at l.rows l.texts l.depth l.k l.left).refusal ≡ 0)
-    × ((map_at l.rows l.texts l.depth l.k l.left).next ≡ (map_at l.rows l.texts l.depth l.i l.count).next)
-    × Left l.initial.out l.at (body_of (map_at l.rows l.texts l.depth l.i l.count).map) l.out l.p (body_of (map_at l.rows l.texts l.depth l.k l.left).map)
-
-abbrev pub decreases-loop-left : goal.decreases-loop-left
-decreases-loop-left l = l.left
+abbrev pub invariant-loop : goal.invariant-loop
+invariant-loop l =
+    ((map_at l.rows l.texts l.depth l.k (l.count - l.counter)).refusal ≡ 0)
+    × ((map_at l.rows l.texts l.depth l.k (l.count - l.counter)).next ≡ (map_at l.rows l.texts l.depth l.i l.count).next)
+    × Left l.initial.out l.at (body_of (map_at l.rows l.texts l.depth l.i l.count).map) l.out l.p (body_of (map_at l.rows l.texts l.depth l.k (l.count - l.counter)).map)

@@ -6,9 +6,8 @@ use Rattle.map.proofs.put.put_key.Goals as goal
 
 pub put_text-requires : goal.put_text-requires
 put_text-requires c =
-    let c6 = c in
-    let r = row_of _ _ _ c6.requires.0 in
-    (omega (arith, r.key, c.cell.ensures.0, c.cell-2.ensures.0), omega (arith, r.key_short, c.cell-2.ensures.0), room_as (key_at_lem _ _ _ c.cell.ensures.0 c.cell-2.ensures.0) c6.requires.1)
+    let r = row_of _ _ _ c.requires.0 in
+    (omega (arith, r.key, c.cell.ensures.0, c.cell-2.ensures.0), omega (arith, r.key_short, c.cell-2.ensures.0), room_as (key_at_lem _ _ _ c.cell.ensures.0 c.cell-2.ensures.0) c.requires.1)
 
 pub returns : goal.returns
 returns c = wrote_as (sym (key_at_lem _ _ _ c.cell.ensures.0 c.cell-2.ensures.0)) c.put_text.ensures

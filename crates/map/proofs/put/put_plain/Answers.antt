@@ -11,29 +11,24 @@ put_u8-p-requires c = room_first _ (room_as (text_value _ _ _ c.cell.ensures.0 c
 
 pub put_text-requires : goal.put_text-requires
 put_text-requires c =
-    let c5 = c in
-    let c12 = c5 in
-    let zero = c5.cell.ensures.0 in
-    let is-text = c5.if-cell-eq0.true in
+    let zero = c.cell.ensures.0 in
+    let is-text = c.if-cell-eq0.true in
     let at = c.cell-then-cell-eq0.ensures.0 in
     let len = c.cell-then-cell-eq0-2.ensures.0 in
-    let t = (row_of _ _ _ c12.requires.0).text (sym zero ∙ is-text) in
-    (omega (arith, t, at, len), omega (arith, t, len), room_second (room_as (text_value _ _ _ zero is-text at len) c12.requires.1) c5.put_u8-p.ensures)
+    let t = (row_of _ _ _ c.requires.0).text (sym zero ∙ is-text) in
+    (omega (arith, t, at, len), omega (arith, t, len), room_second (room_as (text_value _ _ _ zero is-text at len) c.requires.1) c.put_u8-p.ensures)
 
 pub returns-then-cell-eq0 : goal.returns-then-cell-eq0
 returns-then-cell-eq0 c =
-    let c8 = c in
-    wrote_as (sym (text_value _ _ _ c8.cell.ensures.0 c8.if-cell-eq0.true c.cell-then-cell-eq0.ensures.0 c.cell-then-cell-eq0-2.ensures.0))
-    (wrote_then c8.put_u8-p.ensures c.put_text.ensures)
+    wrote_as (sym (text_value _ _ _ c.cell.ensures.0 c.if-cell-eq0.true c.cell-then-cell-eq0.ensures.0 c.cell-then-cell-eq0-2.ensures.0))
+    (wrote_then c.put_u8-p.ensures c.put_text.ensures)
 
 pub put_u8-p-requires-2 : goal.put_u8-p-requires-2
 put_u8-p-requires-2 c = room_first _ (room_as (number_value _ _ _ c.cell.ensures.0 c.if-cell-eq0.false refl) c.requires.1)
 
 pub put_u32-requires : goal.put_u32-requires
 put_u32-requires c =
-    let c6 = c in
-    let c11 = c6 in
-    room_second (room_as (number_value _ _ _ c6.cell.ensures.0 c6.if-cell-eq0.false c.cell-2.ensures.0) c11.requires.1) c.put_u8-p-2.ensures
+    room_second (room_as (number_value _ _ _ c.cell.ensures.0 c.if-cell-eq0.false c.cell-2.ensures.0) c.requires.1) c.put_u8-p-2.ensures
 
 pub returns : goal.returns
 returns c =

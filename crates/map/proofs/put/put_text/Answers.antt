@@ -12,11 +12,8 @@ put_u8-p-requires-2 c = let p = c.requires in room_first _ (room_second (room_as
 
 pub put_bytes-requires : goal.put_bytes-requires
 put_bytes-requires c =
-    let c8 = c in
-    let p = c8.requires in room_second (room_second (room_as (text_parts _ _ _ p.0) p.2) c8.put_u8-p.ensures) c.put_u8-p-2.ensures
+    let p = c.requires in room_second (room_second (room_as (text_parts _ _ _ p.0) p.2) c.put_u8-p.ensures) c.put_u8-p-2.ensures
 
 pub returns : goal.returns
 returns c =
-    let c7 = c in
-    let c15 = c7 in
-    let p = c15.requires in wrote_as (sym (text_parts _ _ _ p.0)) (wrote_then c7.put_u8-p.ensures (wrote_then c7.put_u8-p-2.ensures c.put_bytes.ensures))
+    let p = c.requires in wrote_as (sym (text_parts _ _ _ p.0)) (wrote_then c.put_u8-p.ensures (wrote_then c.put_u8-p-2.ensures c.put_bytes.ensures))

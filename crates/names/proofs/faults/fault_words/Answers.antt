@@ -1,6 +1,15 @@
-use borrow.Author.Rules.{rules}
-use Rattle.names.proofs.Why.{words_said}
+-- `names::faults::fault_words` meets its contract: the code's list is the definition's.
+use mathlib.Core.Path.{refl, ap, ◌∙◌}
+use Rattle.names.specs.Bytes.{bytes, filled}
+use Rattle.names.specs.Names as names
+use Rattle.names.proofs.Called.{joined}
+use Rattle.names.proofs.Said.{said_words, said_short}
 use Rattle.names.proofs.faults.fault_words.Goals as goal
 
+pub say-requires : goal.say-requires
+unfolding joined names.fault_words bytes
+say-requires c = said_short names.fault_words 22 refl tt c.args.number
+
 pub returns : goal.returns
-returns c = words_said c.args.number c.put_words.ensures
+unfolding joined names.fault_words bytes
+returns c = c.say.ensures ∙ ap (λ l. record { text = filled 128 l }) (said_words names.fault_words 22 refl tt c.args.number)

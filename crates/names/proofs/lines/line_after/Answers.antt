@@ -1,5 +1,4 @@
 use native.Mathlib.Omega.{arith}
-use borrow.Author.Rules.{rules}
 use Rattle.names.proofs.Texts.{behind_line, behind_all}
 use Rattle.names.proofs.lines.line_after.Goals as goal
 

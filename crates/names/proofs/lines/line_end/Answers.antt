@@ -1,24 +1,17 @@
-use Prim.Native.Nat.{◌-◌}
 use native.Mathlib.Omega.{arith}
-use lib.ListN.{length}
-use borrow.Author.Rules.{rules}
-use Rattle.names.proofs.Texts.{InLine, in_line_start, in_line_ends, in_line_more, in_line_done}
+use mathlib.Core.Path.{ap}
+use Prim.Native.Nat.{◌+◌}
+use lib.ListN.{drop, length-drop}
+use Rattle.names.proofs.Texts.{rest_all, line_within, end_found, end_missing}
 use Rattle.names.proofs.lines.line_end.Goals as goal
 
-pub loop-p-init : goal.loop-p-init
-loop-p-init c = in_line_start c.requires
+pub returns-in-Some : goal.returns-in-Some
+returns-in-Some c =
+    let line = drop c.args.at c.args.s.now in
+    let e = end_found line (rw (rest_all c.args.s.now c.args.at) at c.in-Some.ensures) in
+    (ap (λ n. c.args.at + n) e, omega (arith, e, line_within line, length-drop c.args.at c.args.s.now, c.requires))
 
-pub returns-then-s-p-eq10 : goal.returns-then-s-p-eq10
-returns-then-s-p-eq10 c = (in_line_ends c.loop-p.invariant c.loop-p-test.true c.if-s-p-eq10.true, c.loop-p.invariant.inside)
-
-pub overflow_add-p : goal.overflow_add-p
-overflow_add-p c = record { fits = omega (arith, c.well_formed, c.loop-p-test.true) }
-
-pub loop-p-smaller : goal.loop-p-smaller
-loop-p-smaller c = omega (arith, c.loop-p-test.true)
-
-pub loop-p-preserved : goal.loop-p-preserved
-loop-p-preserved c = in_line_more c.loop-p.invariant c.loop-p-test.true c.if-s-p-eq10.false
-
-pub returns : goal.returns
-returns c = (in_line_done c.loop-p.invariant c.loop-p-test.false, c.loop-p.invariant.inside)
+pub returns-in-None : goal.returns-in-None
+returns-in-None c =
+    let e = end_missing (drop c.args.at c.args.s.now) (rw (rest_all c.args.s.now c.args.at) at c.in-None.ensures) in
+    (omega (arith, e, length-drop c.args.at c.args.s.now, c.requires), omega arith)

@@ -1,4 +1,3 @@
-use borrow.Author.Rules.{rules}
 use Rattle.wire.proofs.Writers.{wrote_as, room_as}
 use mathlib.Core.Path.{sym}
 use Rattle.names.proofs.Texts.{line_part}
@@ -6,10 +5,8 @@ use Rattle.names.proofs.lines.put_line.Goals as goal
 
 pub put_bytes-requires : goal.put_bytes-requires
 put_bytes-requires c =
-    let t = c in
-    room_as (sym (line_part (record { starts = t.line_start-from.ensures.0; ends = t.line_end-to.ensures.0 }))) t.requires
+    room_as (sym (line_part (record { starts = c.line_start-from.ensures.0; ends = c.line_end-to.ensures.0 }))) c.requires
 
 pub returns : goal.returns
 returns c =
-    let t = c in
-    wrote_as (line_part (record { starts = t.line_start-from.ensures.0; ends = t.line_end-to.ensures.0 })) c.put_bytes.ensures
+    wrote_as (line_part (record { starts = c.line_start-from.ensures.0; ends = c.line_end-to.ensures.0 })) c.put_bytes.ensures

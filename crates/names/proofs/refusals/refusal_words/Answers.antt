@@ -1,6 +1,15 @@
-use borrow.Author.Rules.{rules}
-use Rattle.names.proofs.Said.{words_said}
+-- `names::refusals::refusal_words` meets its contract: the code's list is the definition's.
+use mathlib.Core.Path.{refl, ap, ◌∙◌}
+use Rattle.names.specs.Bytes.{bytes, filled}
+use Rattle.names.specs.Names as names
+use Rattle.names.proofs.Called.{joined}
+use Rattle.names.proofs.Said.{said_words, said_short}
 use Rattle.names.proofs.refusals.refusal_words.Goals as goal
 
+pub say-requires : goal.say-requires
+unfolding joined names.refusal_words bytes
+say-requires c = said_short names.refusal_words 27 refl tt c.args.number
+
 pub returns : goal.returns
-returns c = words_said c.args.number c.put_words.ensures
+unfolding joined names.refusal_words bytes
+returns c = c.say.ensures ∙ ap (λ l. record { text = filled 128 l }) (said_words names.refusal_words 27 refl tt c.args.number)

@@ -19,8 +19,7 @@ returns-then-offsets-a c = λ e. never e
 
 pub returns-else-offsets-a : goal.returns-else-offsets-a
 returns-else-offsets-a c =
-    let s = c in
-    λ e. bare_equal _ _ _ _ (s.requires.0 c.if-size-gt0.true) _ _ s.requires.1 s.requires.2 c.if-offsets-a.false
+    λ e. bare_equal _ _ _ _ (c.requires.0 c.if-size-gt0.true) _ _ c.requires.1 c.requires.2 c.if-offsets-a.false
 
 pub returns-else-size-gt0 : goal.returns-else-size-gt0
 returns-else-size-gt0 c = λ e. bare_none _ _ _ _ c.if-size-gt0.false

@@ -7,16 +7,16 @@ pub returns-then-calm : goal.returns-then-calm
 returns-then-calm c = sym (c.requires.3 c.if-calm.true)
 
 pub rows_len-fod-requires : goal.rows_len-fod-requires
-rows_len-fod-requires c = let s = c in (s.requires.0.fod, s.requires.1.fod, s.requires.2)
+rows_len-fod-requires c = (c.requires.0.fod, c.requires.1.fod, c.requires.2)
 
 pub rows_len-whispy-requires : goal.rows_len-whispy-requires
-rows_len-whispy-requires c = let s = c in (s.requires.0.whispy, s.requires.1.whispy, s.requires.2)
+rows_len-whispy-requires c = (c.requires.0.whispy, c.requires.1.whispy, c.requires.2)
 
 pub rows_len-stadium-requires : goal.rows_len-stadium-requires
-rows_len-stadium-requires c = let s = c in (s.requires.0.stadium, s.requires.1.stadium, s.requires.2)
+rows_len-stadium-requires c = (c.requires.0.stadium, c.requires.1.stadium, c.requires.2)
 
 pub rows_len-item-requires : goal.rows_len-item-requires
-rows_len-item-requires c = let s = c in (s.requires.0.item, s.requires.1.item, s.requires.2)
+rows_len-item-requires c = (c.requires.0.item, c.requires.1.item, c.requires.2)
 
 pub returns : goal.returns
 returns c = middle_is _ _ _ _ _ _ _ c.rows_len-fod.ensures.0 c.rows_len-whispy.ensures.0 c.rows_len-stadium.ensures.0 c.rows_len-item.ensures.0

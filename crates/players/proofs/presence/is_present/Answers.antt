@@ -1,5 +1,4 @@
 use native.Mathlib.Omega.{arith}
-use borrow.Author.Rules.{rules}
 use Rattle.players.proofs.PresenceLaws.{marked_all, marked_past, marked_bit}
 use Rattle.players.proofs.presence.is_present.Goals as goal
 

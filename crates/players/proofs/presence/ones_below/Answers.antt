@@ -1,7 +1,6 @@
 -- `players::presence::ones_below` meets its contract: 1 << k is 2 ^ k, and a byte has at most eight bits.
 use mathlib.Core.Path.{◌≡◌, ◌∙◌}
 use Prim.Native.Nat.{ℕ, ◌%◌, ◌^◌, ◌*◌, ◌<◌}
-use borrow.Author.Rules.{rules}
 use native.Mathlib.Omega.{arith}
 use native.Mathlib.Nat.{one-mul, mod-le}
 use lib.Dec.{lit<}

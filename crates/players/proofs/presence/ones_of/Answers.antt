@@ -1,5 +1,4 @@
 -- `players::presence::ones_of` meets its contract: a byte has at most eight bits.
-use borrow.Author.Rules.{rules}
 use native.Mathlib.Omega.{arith}
 use lib.Count.{ones-le}
 use Rattle.players.proofs.presence.ones_of.Goals as goal

@@ -1,6 +1,6 @@
 use mathlib.Core.Path.{◌≡◌, ap}
 use mathlib.Core.List.{List}
-use Prim.Native.Nat.{ℕ, ◌+◌, ◌*◌, ◌-◌, ◌≤◌}
+use Prim.Native.Nat.{ℕ, ◌+◌, ◌*◌, ◌≤◌}
 use native.Mathlib.Omega.{arith}
 use lib.ListN.{drop}
 use Rattle.game.specs.Frames.{Slot}
@@ -15,9 +15,7 @@ loop-k-init c = (omega arith, c.requires.1.few, omega arith)
 
 pub present_in-n-requires : goal.present_in-n-requires
 present_in-n-requires c =
-    let l = c in
-    let s = l in
-    slot_covered s.args.f s.args.presence.now s.args.s s.requires.2 s.requires.1 l.loop-k.k (omega arith)
+    slot_covered c.args.f c.args.presence.now c.args.s c.requires.2 c.requires.1 c.loop-k.k (omega arith)
 
 -- the players of all slots, and that they are few
 all : (c : Start) → players_present c.args.presence.now (slots_in c.args.s) c.args.f.counts.frames ≤ 8 * c.args.f.counts.frames
@@ -31,22 +29,17 @@ more : (c : After-present_in-n)
     + players_present c.args.presence.now (drop (c.loop-k.k + 1) (slots_in c.args.s)) c.args.f.counts.frames
     ≡ players_present c.args.presence.now (slots_in c.args.s) c.args.f.counts.frames
 more c =
-    let l = c in
-    let s = l in
-    omega (arith, l.loop-k.invariant.2, c.present_in-n.ensures, players_step s.args.presence.now s.args.f.counts.frames s.args.s l.loop-k.k (omega arith))
+    omega (arith, c.loop-k.invariant.2, c.present_in-n.ensures, players_step c.args.presence.now c.args.f.counts.frames c.args.s c.loop-k.k (omega arith))
 
 pub overflow_add-n : goal.overflow_add-n
 overflow_add-n c =
-    let s = c in
-    omega (arith, more c, all (goal.at.overflow_add-n c).Start, s.requires.0.frames)
+    omega (arith, more c, all (goal.at.overflow_add-n c).Start, c.requires.0.frames)
 
 pub loop-k-preserved : goal.loop-k-preserved
 loop-k-preserved c = (omega arith, c.loop-k.invariant.1, more c)
 
 pub returns : goal.returns
 returns c =
-    let l = c in
-    let s = l in
-    let players : List Slot → ℕ = λ ss. players_present s.args.presence.now ss s.args.f.counts.frames in
-    let done = players_done s.args.presence.now s.args.f.counts.frames s.args.s l.loop-k.k (omega arith) in
-    (omega (arith, l.loop-k.invariant.2, done, ap players s.requires.1.listed), omega (arith, l.loop-k.invariant.2, all (goal.at.returns c).Start))
+    let players : List Slot → ℕ = λ ss. players_present c.args.presence.now ss c.args.f.counts.frames in
+    let done = players_done c.args.presence.now c.args.f.counts.frames c.args.s c.loop-k.k (omega arith) in
+    (omega (arith, c.loop-k.invariant.2, done, ap players c.requires.1.listed), omega (arith, c.loop-k.invariant.2, all (goal.at.returns c).Start))

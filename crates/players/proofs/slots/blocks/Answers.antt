@@ -1,4 +1,3 @@
-use borrow.Author.Rules.{rules}
 use Rattle.layout.proofs.Laws.{arm}
 use Rattle.game.specs.Frames.{slot_blocks}
 use Rattle.players.proofs.slots.blocks.Goals as goal

@@ -1,11 +1,11 @@
 use mathlib.Core.Path.{◌≡◌, ap, ◌∙◌}
-use Prim.Native.Nat.{◌*◌, ◌-◌, ◌≤◌}
+use Prim.Native.Nat.{◌≤◌}
 use native.Mathlib.Omega.{arith}
 use lib.ListN.{length}
 use Rattle.wire.proofs.Laws.{tabulate_length}
 use Rattle.game.specs.Frames.{port_bytes}
-use Rattle.players.specs.Inner.{slot_in, slots_in, Eight}
-use Rattle.players.proofs.SlotLaws.{Gathered, gather_start, gather_step, gather_done, few_slots, even_bytes}
+use Rattle.players.specs.Inner.{slot_in, slots_in}
+use Rattle.players.proofs.SlotLaws.{gather_start, gather_step, gather_done, few_slots, even_bytes}
 use Rattle.players.proofs.slots.slots_of.Goals as goal
 use Rattle.players.proofs.slots.slots_of.Goals.{After-port-p}
 
@@ -15,8 +15,7 @@ loop-k-init c = (omega arith, omega arith, omega arith, c.none-s.ensures.1, gath
 -- the port column that was read has few presence bytes
 few_bytes : (c : After-port-p) → port_bytes c.port-p.result ≤ 262144
 few_bytes c =
-    let s = c in
-    omega (arith, ap port_bytes c.port-p.ensures, even_bytes s.args.f s.requires.0 s.requires.1 c.loop-k.k (omega arith))
+    omega (arith, ap port_bytes c.port-p.ensures, even_bytes c.args.f c.requires.0 c.requires.1 c.loop-k.k (omega arith))
 
 pub with_port-s-requires : goal.with_port-s-requires
 with_port-s-requires c = (omega arith, c.loop-k.invariant.3, omega (arith, few_bytes c))
@@ -30,19 +29,17 @@ overflow_add-at c = omega (arith, few_bytes (goal.at.overflow_add-at c).After-po
 pub loop-k-preserved : goal.loop-k-preserved
 loop-k-preserved c =
     let p = c in
-    let l = p in
     let g = c.with_port-s.ensures in (
       omega arith,
-      omega (arith, g.count, few_slots l.loop-k.at p.port-p.result),
+      omega (arith, g.count, few_slots p.loop-k.at p.port-p.result),
       omega (arith, few_bytes (goal.at.loop-k-preserved c).After-port-p),
       g.eight,
-      rw c.bytes-at.ensures (gather_step _ l.loop-k.k l.loop-k.at l.loop-k.s _ _ (omega arith) p.port-p.ensures g l.loop-k.invariant.4),
+      rw c.bytes-at.ensures (gather_step _ p.loop-k.k p.loop-k.at p.loop-k.s _ _ (omega arith) p.port-p.ensures g p.loop-k.invariant.4),
     )
 
 pub returns : goal.returns
 returns c =
-    let l = c in
-    let f = l.args.f in
-    let all = gather_done f l.loop-k.k l.loop-k.at l.loop-k.s (omega arith) l.loop-k.invariant.4 in
-    let count : l.loop-k.s.count ≡ length (slots_in l.loop-k.s) = omega (arith, tabulate_length l.loop-k.s.count (slot_in l.loop-k.s)) in
-    record { count = count ∙ ap length all; few = omega arith; listed = all; eight = l.loop-k.invariant.3 }
+    let f = c.args.f in
+    let all = gather_done f c.loop-k.k c.loop-k.at c.loop-k.s (omega arith) c.loop-k.invariant.4 in
+    let count : c.loop-k.s.count ≡ length (slots_in c.loop-k.s) = omega (arith, tabulate_length c.loop-k.s.count (slot_in c.loop-k.s)) in
+    record { count = count ∙ ap length all; few = omega arith; listed = all; eight = c.loop-k.invariant.3 }

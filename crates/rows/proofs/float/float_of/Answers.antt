@@ -1,5 +1,4 @@
 -- Assumes nothing.
-use borrow.Author.Rules.{rules}
 use Rattle.rows.proofs.Nan.{above, not_above, nan_made}
 use Rattle.rows.proofs.float.float_of.Goals as goal
 

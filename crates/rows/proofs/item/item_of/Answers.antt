@@ -1,5 +1,4 @@
 -- `rows::item::item_of` meets its contract: the row, with what each call ensures in its field.
-use borrow.Author.Rules.{rules}
 use lib.ListN.{get_or}
 use Rattle.layout.specs.Columns.{columns_of}
 use Rattle.rows.specs.Inner.{width_at}
@@ -28,117 +27,33 @@ returns c =
       instance_id = get_or raw 15 0;
     }
 
-pub bounds-raw-0 : goal.bounds-raw-0
-unfolding width_at columns_of
-bounds-raw-0 c = search rules
-
 pub overflow_cast-result : goal.overflow_cast-result
 unfolding width_at columns_of
 overflow_cast-result c = record { fits = c.requires 0 }
-
-pub bounds-raw-1 : goal.bounds-raw-1
-unfolding width_at columns_of
-bounds-raw-1 c = search rules
 
 pub overflow_cast-result-2 : goal.overflow_cast-result-2
 unfolding width_at columns_of
 overflow_cast-result-2 c = record { fits = c.requires 1 }
 
-pub bounds-raw-2 : goal.bounds-raw-2
-unfolding width_at columns_of
-bounds-raw-2 c = search rules
-
-pub float_of-requires : goal.float_of-requires
-unfolding width_at columns_of
-float_of-requires c = search rules
-
-pub bounds-raw-3 : goal.bounds-raw-3
-unfolding width_at columns_of
-bounds-raw-3 c = search rules
-
-pub bounds-raw-4 : goal.bounds-raw-4
-unfolding width_at columns_of
-bounds-raw-4 c = search rules
-
-pub velocity_of-requires : goal.velocity_of-requires
-unfolding width_at columns_of
-velocity_of-requires c = search rules
-
-pub bounds-raw-5 : goal.bounds-raw-5
-unfolding width_at columns_of
-bounds-raw-5 c = search rules
-
-pub bounds-raw-6 : goal.bounds-raw-6
-unfolding width_at columns_of
-bounds-raw-6 c = search rules
-
-pub position_of-requires : goal.position_of-requires
-unfolding width_at columns_of
-position_of-requires c = search rules
-
-pub bounds-raw-7 : goal.bounds-raw-7
-unfolding width_at columns_of
-bounds-raw-7 c = search rules
-
 pub overflow_cast-result-3 : goal.overflow_cast-result-3
 unfolding width_at columns_of
 overflow_cast-result-3 c = record { fits = c.requires 7 }
-
-pub bounds-raw-8 : goal.bounds-raw-8
-unfolding width_at columns_of
-bounds-raw-8 c = search rules
-
-pub float_of-requires-2 : goal.float_of-requires-2
-unfolding width_at columns_of
-float_of-requires-2 c = search rules
-
-pub bounds-raw-9 : goal.bounds-raw-9
-unfolding width_at columns_of
-bounds-raw-9 c = search rules
-
-pub bounds-raw-10 : goal.bounds-raw-10
-unfolding width_at columns_of
-bounds-raw-10 c = search rules
 
 pub overflow_cast-result-4 : goal.overflow_cast-result-4
 unfolding width_at columns_of
 overflow_cast-result-4 c = record { fits = c.requires 10 }
 
-pub bounds-raw-11 : goal.bounds-raw-11
-unfolding width_at columns_of
-bounds-raw-11 c = search rules
-
 pub overflow_cast-result-5 : goal.overflow_cast-result-5
 unfolding width_at columns_of
 overflow_cast-result-5 c = record { fits = c.requires 11 }
-
-pub bounds-raw-12 : goal.bounds-raw-12
-unfolding width_at columns_of
-bounds-raw-12 c = search rules
 
 pub overflow_cast-result-6 : goal.overflow_cast-result-6
 unfolding width_at columns_of
 overflow_cast-result-6 c = record { fits = c.requires 12 }
 
-pub bounds-raw-13 : goal.bounds-raw-13
-unfolding width_at columns_of
-bounds-raw-13 c = search rules
-
 pub overflow_cast-result-7 : goal.overflow_cast-result-7
 unfolding width_at columns_of
 overflow_cast-result-7 c = record { fits = c.requires 13 }
-
-pub bounds-raw-14 : goal.bounds-raw-14
-unfolding width_at columns_of
-bounds-raw-14 c = search rules
-
-pub signed8-requires : goal.signed8-requires
-unfolding width_at columns_of
-signed8-requires c = search rules
-
-pub bounds-raw-15 : goal.bounds-raw-15
-unfolding width_at columns_of
-bounds-raw-15 c = search rules
 
 pub overflow_cast-result-8 : goal.overflow_cast-result-8
 unfolding width_at columns_of

@@ -6,6 +6,3 @@ pub returns : goal.returns
 returns c =
     let fits = c.shared_slice_known-1 in
     kept _ _ _ (λ k. omega (arith, (fits.given k).fits)) c.columns-n.ensures.0 c.filled.ensures c.narrow.ensures
-
-pub filled-requires : goal.filled-requires
-filled-requires c = c.columns-n.ensures.1

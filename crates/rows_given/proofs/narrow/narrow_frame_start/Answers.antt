@@ -1,6 +1,5 @@
 -- `rows_given::narrow::narrow_frame_start` meets its contract: each cell by the width of its column.
 use mathlib.Core.Path.{refl}
-use borrow.Author.Rules.{rules}
 use Rattle.wire.specs.Wire.{tabulate}
 use Rattle.layout.specs.Columns.{columns_of}
 use Rattle.rows.specs.Inner.{width_at}

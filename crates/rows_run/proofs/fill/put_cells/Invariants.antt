@@ -1,5 +1,4 @@
 -- `rows_run::fill::put_cells` meets its contract: the cells that are left are those from the k-th on.
-use mathlib.Core.Path.{◌≡◌}
 use mathlib.Core.List.{[], ◌∷◌}
 use Prim.Native.Nat.{◌+◌, ◌*◌, ◌-◌, ◌≤◌}
 use lib.ListN.{get_or}
@@ -10,7 +9,4 @@ use Rattle.rows_run.proofs.fill.put_cells.Given as goal
 
 abbrev pub invariant-loop-k : goal.invariant-loop-k
 invariant-loop-k l =
-    (l.k ≤ l.n) × (l.i ≡ l.first + l.k * l.step) × Left l.initial.out l.at (strided l.cells l.first l.step l.n) l.out l.p (ranged (λ j. get_or l.cells (l.first + j * l.step) 0 ∷ []) l.k (l.n - l.k))
-
-abbrev pub decreases-loop-k : goal.decreases-loop-k
-decreases-loop-k l = l.n - l.k
+    (l.k ≤ l.n) × Left l.initial.out l.at (strided l.cells l.first l.step l.n) l.out (l.at + l.k) (ranged (λ j. get_or l.cells (l.first + j * l.step) 0 ∷ []) l.k (l.n - l.k))

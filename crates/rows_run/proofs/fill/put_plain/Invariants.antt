@@ -7,6 +7,3 @@ use Rattle.rows_run.proofs.fill.put_plain.Given as goal
 abbrev pub invariant-loop-i : goal.invariant-loop-i
 invariant-loop-i l =
     (l.i ≤ l.b) × Left l.initial.out 0 (ranged (plain_row l.cells l.first l.rows l.n) l.a (l.b - l.a)) l.out l.p (ranged (plain_row l.cells l.first l.rows l.n) l.i (l.b - l.i))
-
-abbrev pub decreases-loop-i : goal.decreases-loop-i
-decreases-loop-i l = l.b - l.i

@@ -1,15 +1,9 @@
 use mathlib.Core.List.{[]}
 use mathlib.Core.Path.{sym}
 use native.Mathlib.Omega.{arith}
-use Rattle.wire.proofs.Writers.{room_as, wrote_as, wrote_length}
-use Rattle.rows_run.proofs.Runs.{slot_fits, plain_rows, rows_there_lem, first_fits}
+use Rattle.wire.proofs.Writers.{room_as, wrote_as}
+use Rattle.rows_run.proofs.Runs.{plain_rows, rows_there_lem}
 use Rattle.rows_run.proofs.fill.put_plain_run.Goals as goal
-
-pub overflow_mul-slot : goal.overflow_mul-slot
-overflow_mul-slot c = omega (arith, slot_fits _ c.requires.1 c.columns-n.ensures.1)
-
-pub overflow_mul-slot-2 : goal.overflow_mul-slot-2
-overflow_mul-slot-2 c = omega (arith, first_fits _ _ _ _ c.requires.1 (omega (arith, c.well_formed)) c.rows-rows.ensures c.columns-n.ensures.0)
 
 pub put_plain-requires : goal.put_plain-requires
 put_plain-requires c =
@@ -19,9 +13,6 @@ put_plain-requires c =
       rows_there_lem _ _ _ _ c.requires.1 (omega (arith, c.well_formed)) er en,
       c.requires.1.range,
     )
-
-pub shape_of-out : goal.shape_of-out
-shape_of-out c = wrote_length c.put_plain.ensures
 
 pub returns : goal.returns
 returns c = wrote_as (plain_rows _ _ _ _ c.rows-rows.ensures c.columns-n.ensures.0 [] _ _ c.requires.0) c.put_plain.ensures

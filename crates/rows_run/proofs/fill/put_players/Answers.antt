@@ -1,13 +1,7 @@
 use native.Mathlib.Omega.{arith}
-use Rattle.wire.proofs.Writers.{left_start, range_room, range_step, range_done, room_first, room_second, wrote_length, wrote_then, wrote_byte, wrote_as_byte}
+use Rattle.wire.proofs.Writers.{range_room, range_step, range_done, room_first, room_second, wrote_length, wrote_then, wrote_byte, wrote_as_byte}
 use Rattle.rows_run.specs.Inner.{player_row}
 use Rattle.rows_run.proofs.fill.put_players.Goals as goal
-
-pub loop-i-init : goal.loop-i-init
-loop-i-init c = (c.requires.2, left_start)
-
-pub overflow_add-first : goal.overflow_add-first
-overflow_add-first c = omega (arith, (c.requires.1 c.loop-i.i c.loop-i-test.true).far)
 
 pub put_cells-p-requires : goal.put_cells-p-requires
 unfolding player_row
@@ -19,28 +13,17 @@ put_cells-p-requires c =
 pub offset_bounds-out-p : goal.offset_bounds-out-p
 unfolding player_row
 offset_bounds-out-p c =
-    let c6 = c in
-    let c10 = c6 in
-    omega (arith, (room_second (range_room _ c6.loop-i.i _ c6.loop-i.invariant.1 c.loop-i-test.true c10.requires.0) c.put_cells-p.ensures).fits, wrote_length c.put_cells-p.ensures, c6.loop-i.invariant.1.same, c10.well_formed)
+    omega (arith, (room_second (range_room _ c.loop-i.i _ c.loop-i.invariant.1 c.loop-i-test.true c.requires.0) c.put_cells-p.ensures).fits, wrote_length c.put_cells-p.ensures, c.loop-i.invariant.1.same, c.well_formed)
 
 pub bounds-out-p : goal.bounds-out-p
 unfolding player_row
 bounds-out-p c =
-    let c6 = c in
-    omega (arith, (room_second (range_room _ c6.loop-i.i _ c6.loop-i.invariant.1 c.loop-i-test.true c6.requires.0) c.put_cells-p.ensures).fits)
+    omega (arith, (room_second (range_room _ c.loop-i.i _ c.loop-i.invariant.1 c.loop-i-test.true c.requires.0) c.put_cells-p.ensures).fits)
 
 pub overflow_add-p : goal.overflow_add-p
 unfolding player_row
 overflow_add-p c =
-    let c6 = c in
-    let c10 = c6 in
-    omega (arith, (room_second (range_room _ c6.loop-i.i _ c6.loop-i.invariant.1 c.loop-i-test.true c10.requires.0) c.put_cells-p.ensures).fits, wrote_length c.put_cells-p.ensures, c6.loop-i.invariant.1.same, c10.well_formed)
-
-pub overflow_add-i : goal.overflow_add-i
-overflow_add-i c = omega (arith, c.loop-i-test.true, c.well_formed)
-
-pub loop-i-smaller : goal.loop-i-smaller
-loop-i-smaller c = omega (arith, c.loop-i-test.true)
+    omega (arith, (room_second (range_room _ c.loop-i.i _ c.loop-i.invariant.1 c.loop-i-test.true c.requires.0) c.put_cells-p.ensures).fits, wrote_length c.put_cells-p.ensures, c.loop-i.invariant.1.same, c.well_formed)
 
 pub loop-i-preserved : goal.loop-i-preserved
 unfolding player_row
@@ -51,9 +34,6 @@ loop-i-preserved c =
       range_step _ l.i _ l.invariant.1 t
           (wrote_then c.put_cells-p.ensures (wrote_as_byte c.mark_cell-mark.ensures (wrote_byte _ c.put_cells-p.result _))),
     )
-
-pub shape_of-out : goal.shape_of-out
-shape_of-out c = c.loop-i.invariant.1.same
 
 pub returns : goal.returns
 returns c = range_done _ _ _ c.loop-i.invariant.1 c.loop-i-test.false

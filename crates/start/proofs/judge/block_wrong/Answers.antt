@@ -1,4 +1,3 @@
-use borrow.Author.Rules.{rules}
 use Rattle.start.proofs.Refusals.{block_short, block_else}
 use Rattle.start.proofs.judge.block_wrong.Goals as goal
 

@@ -1,7 +1,6 @@
 -- `start::judge::has_bad_seat` meets its contract: one seat after another.
 use mathlib.Core.Path.{refl, sym, ◌∙◌}
 use native.Mathlib.Omega.{arith}
-use borrow.Author.Rules.{rules}
 use Rattle.format.proofs.Tests.{rest_here, rest_skip, rest_none}
 use Rattle.start.specs.Refusal.{bad_seat}
 use Rattle.start.proofs.judge.has_bad_seat.Goals as goal
@@ -24,8 +23,7 @@ returns-then-is_bad_seat-3 c =
 
 pub returns-then-is_bad_seat-4 : goal.returns-then-is_bad_seat-4
 returns-then-is_bad_seat-4 c =
-    let c12 = c in
-    let a = c12.args in
+    let a = c.args in
     rest_here _ (bad_seat a.v) _ a.seats 3 (omega arith) (sym c.is_bad_seat-4.ensures ∙ c.if-is_bad_seat-4.true) (rest_skip _ (bad_seat a.v) _ a.seats 2 (omega arith)
     (sym c.is_bad_seat-3.ensures ∙ c.if-is_bad_seat-3.false) (rest_skip _ (bad_seat a.v) _ a.seats 1 (omega arith)
     (sym c.is_bad_seat-2.ensures ∙ c.if-is_bad_seat-2.false)
@@ -33,8 +31,7 @@ returns-then-is_bad_seat-4 c =
 
 pub returns : goal.returns
 returns c =
-    let c12 = c in
-    let a = c12.args in
+    let a = c.args in
     rest_none (bad_seat a.v) _ a.seats 4 (omega arith) (rest_skip _ (bad_seat a.v) _ a.seats 3 (omega arith) (sym c.is_bad_seat-4.ensures ∙ c.if-is_bad_seat-4.false)
     (rest_skip _ (bad_seat a.v) _ a.seats 2 (omega arith) (sym c.is_bad_seat-3.ensures ∙ c.if-is_bad_seat-3.false)
     (rest_skip _ (bad_seat a.v) _ a.seats 1 (omega arith) (sym c.is_bad_seat-2.ensures ∙ c.if-is_bad_seat-2.false)

@@ -1,35 +1,18 @@
-use borrow.Author.Rules.{rules}
 use Rattle.start.specs.Refusal.{text_too_long}
 use Rattle.start.proofs.Refusals.{tests}
 use Rattle.start.proofs.judge.has_long_text.Goals as goal
-
-pub is_too_long-requires : goal.is_too_long-requires
-unfolding text_too_long
-is_too_long-requires c = search rules
 
 pub returns-then-is_too_long : goal.returns-then-is_too_long
 unfolding text_too_long
 returns-then-is_too_long c = search tests depth 9
 
-pub is_too_long-requires-2 : goal.is_too_long-requires-2
-unfolding text_too_long
-is_too_long-requires-2 c = search rules
-
 pub returns-then-is_too_long-2 : goal.returns-then-is_too_long-2
 unfolding text_too_long
 returns-then-is_too_long-2 c = search tests depth 9
 
-pub is_too_long-requires-3 : goal.is_too_long-requires-3
-unfolding text_too_long
-is_too_long-requires-3 c = search rules
-
 pub returns-then-is_too_long-3 : goal.returns-then-is_too_long-3
 unfolding text_too_long
 returns-then-is_too_long-3 c = search tests depth 9
-
-pub is_too_long-requires-4 : goal.is_too_long-requires-4
-unfolding text_too_long
-is_too_long-requires-4 c = search rules
 
 pub returns : goal.returns
 unfolding text_too_long

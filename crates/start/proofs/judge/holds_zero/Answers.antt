@@ -1,5 +1,4 @@
 use mathlib.Core.Path.{◌∙◌}
-use borrow.Author.Rules.{rules}
 use Rattle.patch.specs.Field.{zero_inside}
 use Rattle.start.specs.Refusal.{holds_zero}
 use Rattle.start.proofs.Refusals.{asked_on, asked_off}

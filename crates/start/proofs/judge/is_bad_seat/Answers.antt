@@ -1,4 +1,3 @@
-use borrow.Author.Rules.{rules}
 use Rattle.start.specs.Refusal.{bad_seat, type_above2}
 use Rattle.start.proofs.Refusals.{tests, given_on, given_off}
 use Rattle.start.proofs.judge.is_bad_seat.Goals as goal
@@ -6,10 +5,6 @@ use Rattle.start.proofs.judge.is_bad_seat.Goals as goal
 pub returns-then-p-eq0 : goal.returns-then-p-eq0
 unfolding bad_seat type_above2
 returns-then-p-eq0 c = search given_off
-
-pub lacks_field-requires : goal.lacks_field-requires
-unfolding bad_seat type_above2
-lacks_field-requires c = search rules
 
 pub returns-then-lacks_field : goal.returns-then-lacks_field
 unfolding bad_seat type_above2
@@ -19,25 +14,13 @@ pub returns-then-p-gt2 : goal.returns-then-p-gt2
 unfolding bad_seat type_above2
 returns-then-p-gt2 c = search (given_on, tests) depth 9
 
-pub lacks_level-requires : goal.lacks_level-requires
-unfolding bad_seat type_above2
-lacks_level-requires c = search rules
-
 pub returns-then-lacks_level : goal.returns-then-lacks_level
 unfolding bad_seat type_above2
 returns-then-lacks_level c = search (given_on, tests) depth 9
 
-pub has_long_text-requires : goal.has_long_text-requires
-unfolding bad_seat type_above2
-has_long_text-requires c = search rules
-
 pub returns-then-has_long_text : goal.returns-then-has_long_text
 unfolding bad_seat type_above2
 returns-then-has_long_text c = search (given_on, tests) depth 9
-
-pub has_text_with_zero-requires : goal.has_text_with_zero-requires
-unfolding bad_seat type_above2
-has_text_with_zero-requires c = search rules
 
 pub returns : goal.returns
 unfolding bad_seat type_above2

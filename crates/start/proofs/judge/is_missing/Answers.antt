@@ -1,11 +1,6 @@
-use borrow.Author.Rules.{rules}
 use Rattle.start.specs.Refusal.{missing}
 use Rattle.start.proofs.Refusals.{asked_on, asked_off}
 use Rattle.start.proofs.judge.is_missing.Goals as goal
-
-pub reached-requires : goal.reached-requires
-unfolding missing
-reached-requires c = search rules
 
 pub returns-then-reached : goal.returns-then-reached
 unfolding missing

@@ -1,80 +1,21 @@
-use borrow.Author.Rules.{rules}
+use mathlib.Core.Path.{refl, sym, ◌∙◌}
+use native.Mathlib.Omega.{arith}
+use Rattle.start.specs.Gate.{gates}
 use Rattle.start.specs.Length.{length_of}
-use Rattle.start.proofs.Lengths.{gates-asked, is_passed, before_all}
+use Rattle.start.proofs.Lengths.{is_reached, is_passed, all_passed}
 use Rattle.start.proofs.length.block_length.Goals as goal
 
-pub reached-requires : goal.reached-requires
+pub loop-g-init : goal.loop-g-init
 unfolding length_of
-reached-requires c = search rules
+loop-g-init c = refl
 
 pub returns-then-reached : goal.returns-then-reached
-unfolding length_of
-returns-then-reached c = search gates-asked depth 12
+returns-then-reached c =
+    is_reached _ gates c.loop-g.g-index _ _ (omega arith) (sym c.reached.ensures ∙ c.if-reached.true) c.loop-g.invariant
 
-pub reached-requires-2 : goal.reached-requires-2
-unfolding length_of
-reached-requires-2 c = search rules
-
-pub returns-then-reached-2 : goal.returns-then-reached-2
-unfolding length_of
-returns-then-reached-2 c = search gates-asked depth 12
-
-pub reached-requires-3 : goal.reached-requires-3
-unfolding length_of
-reached-requires-3 c = search rules
-
-pub returns-then-reached-3 : goal.returns-then-reached-3
-unfolding length_of
-returns-then-reached-3 c = search gates-asked depth 12
-
-pub reached-requires-4 : goal.reached-requires-4
-unfolding length_of
-reached-requires-4 c = search rules
-
-pub returns-then-reached-4 : goal.returns-then-reached-4
-unfolding length_of
-returns-then-reached-4 c = search gates-asked depth 12
-
-pub reached-requires-5 : goal.reached-requires-5
-unfolding length_of
-reached-requires-5 c = search rules
-
-pub returns-then-reached-5 : goal.returns-then-reached-5
-unfolding length_of
-returns-then-reached-5 c = search gates-asked depth 12
-
-pub reached-requires-6 : goal.reached-requires-6
-unfolding length_of
-reached-requires-6 c = search rules
-
-pub returns-then-reached-6 : goal.returns-then-reached-6
-unfolding length_of
-returns-then-reached-6 c = search gates-asked depth 12
-
-pub reached-requires-7 : goal.reached-requires-7
-unfolding length_of
-reached-requires-7 c = search rules
-
-pub returns-then-reached-7 : goal.returns-then-reached-7
-unfolding length_of
-returns-then-reached-7 c = search gates-asked depth 12
-
-pub reached-requires-8 : goal.reached-requires-8
-unfolding length_of
-reached-requires-8 c = search rules
-
-pub returns-then-reached-8 : goal.returns-then-reached-8
-unfolding length_of
-returns-then-reached-8 c = search gates-asked depth 12
-
-pub reached-requires-9 : goal.reached-requires-9
-unfolding length_of
-reached-requires-9 c = search rules
-
-pub returns-then-reached-9 : goal.returns-then-reached-9
-unfolding length_of
-returns-then-reached-9 c = search gates-asked depth 12
+pub loop-g-preserved : goal.loop-g-preserved
+loop-g-preserved c =
+    is_passed _ gates c.loop-g.g-index _ _ (omega arith) (sym c.reached.ensures ∙ c.if-reached.false) c.loop-g.invariant
 
 pub returns : goal.returns
-unfolding length_of
-returns c = search (is_passed, before_all) depth 12
+returns c = all_passed _ gates c.loop-g.g-index _ (omega arith) c.loop-g.invariant

@@ -1,5 +1,4 @@
 use native.Mathlib.Omega.{arith}
-use borrow.Author.Rules.{rules}
 use Rattle.start.proofs.Blocks.{block_room, block_written}
 use Rattle.start_block.proofs.block.put_block.Goals as goal
 

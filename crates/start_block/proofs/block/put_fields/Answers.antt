@@ -1,5 +1,4 @@
 use native.Mathlib.Omega.{arith}
-use borrow.Author.Rules.{rules}
 use Rattle.start.specs.Block.{fields}
 use Rattle.start.proofs.Lengths.{at_least}
 use Rattle.patch.proofs.Patches.{patched_then}

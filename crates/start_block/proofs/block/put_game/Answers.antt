@@ -1,5 +1,4 @@
 use native.Mathlib.Omega.{arith}
-use borrow.Author.Rules.{rules}
 use Rattle.patch.specs.Inner.{number_patches, Fit}
 use Rattle.patch.proofs.Patches.{patched_then, patched_one}
 use Rattle.start.specs.Block.{game_fields}

@@ -1,6 +1,5 @@
 use mathlib.Core.Path.{sym, ◌∙◌}
 use native.Mathlib.Omega.{arith}
-use borrow.Author.Rules.{rules}
 use Rattle.wire.proofs.Writers.{room_number}
 use Rattle.start.specs.Gate.{match_from}
 use Rattle.start.specs.Block.{match_fields}

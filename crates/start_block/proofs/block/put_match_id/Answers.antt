@@ -1,5 +1,4 @@
 use native.Mathlib.Omega.{arith}
-use borrow.Author.Rules.{rules}
 use Rattle.wire.proofs.Writers.{wrote_as}
 use Rattle.patch.proofs.Patches.{patched_one, ended}
 use Rattle.patch.proofs.Viewed.{read_further}
@@ -7,6 +6,5 @@ use Rattle.start_block.proofs.block.put_match_id.Goals as goal
 
 pub returns : goal.returns
 returns c =
-    let s = c in
     let w = c.put_filled.ensures in
-    (patched_one (wrote_as (ended s.args.id) w.0), read_further _ 701 s.args.id 51 (omega arith) s.requires.2 w.1)
+    (patched_one (wrote_as (ended c.args.id) w.0), read_further _ 701 c.args.id 51 (omega arith) c.requires.2 w.1)

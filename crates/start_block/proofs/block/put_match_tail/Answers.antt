@@ -1,5 +1,4 @@
 -- `start::block::put_match_tail` meets its contract, arm by arm.
-use borrow.Author.Rules.{rules}
 use Rattle.start.proofs.Tails.{tail_zeros, tail_stays}
 use Rattle.start_block.proofs.block.put_match_tail.Goals as goal
 

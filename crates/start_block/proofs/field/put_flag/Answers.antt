@@ -1,4 +1,3 @@
-use borrow.Author.Rules.{rules}
 use Rattle.start_block.proofs.field.put_flag.Goals as goal
 
 pub returns : goal.returns

@@ -1,5 +1,4 @@
 use mathlib.Core.Path.{sym, ◌∙◌}
-use borrow.Author.Rules.{rules}
 use Rattle.wire.proofs.Writers.{room_number}
 use Rattle.patch.proofs.Patches.{patched_one, patched_on, patched_off}
 use Rattle.start_block.proofs.field.put_number.Goals as goal

@@ -1,6 +1,5 @@
 use mathlib.Core.Path.{sym, ap, ◌∙◌}
 use native.Mathlib.Omega.{arith}
-use borrow.Author.Rules.{rules}
 use Rattle.patch.proofs.Patches.{patched_one, patched_on, patched_off}
 use Rattle.patch.proofs.Viewed.{read_filled}
 use Rattle.patch.specs.Field.{read_text}

@@ -1,5 +1,4 @@
 use native.Mathlib.Omega.{arith}
-use borrow.Author.Rules.{rules}
 use Rattle.wire.proofs.Laws.{byte_if}
 use Rattle.patch.specs.Inner.{number_patches, Fit}
 use Rattle.start.specs.Block.{player_fields}

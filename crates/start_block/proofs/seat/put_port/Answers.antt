@@ -1,6 +1,5 @@
 use lib.Dec.{lit≤}
 use native.Mathlib.Omega.{arith}
-use borrow.Author.Rules.{rules}
 use Rattle.start.specs.Block.{port_fields}
 use Rattle.start.proofs.Lengths.{at_least, long_enough}
 use Rattle.patch.proofs.Patches.{patched_then}

@@ -1,5 +1,4 @@
 use mathlib.Core.Path.{refl, sym}
-use borrow.Author.Rules.{rules}
 use Rattle.patch.proofs.Patches.{patched_on, patched_off}
 use Rattle.format.proofs.Tests.{a_mark, no_mark}
 use Rattle.start.proofs.Refusals.{seat_texts}

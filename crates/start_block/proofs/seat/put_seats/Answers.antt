@@ -1,13 +1,5 @@
-use mathlib.Core.Path.{◌≡◌, refl}
-use mathlib.Core.Bool.{false}
-use mathlib.Core.List.{map}
-use Prim.Native.Nat.{◌-◌, ◌≤◌}
+use mathlib.Core.Path.{refl}
 use native.Mathlib.Omega.{arith}
-use lib.ListN.{length, drop}
-use Rattle.format.specs.Refusal.{one_of}
-use Rattle.start.specs.Refusal.{bad_seat}
-use Rattle.patch.specs.Patch.{patched}
-use Rattle.start.specs.Block.{seats_fields}
 use Rattle.start_block.proofs.Seats.{seats_step, seats_done}
 use Rattle.start.proofs.Refusals.{none_at, none_later}
 use Rattle.start_block.proofs.seat.put_seats.Goals as goal

@@ -1,6 +1,5 @@
 use lib.Dec.{lit≤}
 use native.Mathlib.Omega.{arith}
-use borrow.Author.Rules.{rules}
 use Rattle.start.specs.Block.{text_fields}
 use Rattle.start.proofs.Lengths.{long_enough}
 use Rattle.patch.proofs.Patches.{patched_then}
@@ -30,6 +29,4 @@ put_text-requires-4 c =
 pub returns : goal.returns
 unfolding text_fields
 returns c =
-    let c2 = c in
-    let c1 = c2 in
-    patched_then c1.put_text.ensures.0 (patched_then c2.put_text-2.ensures.0 (patched_then c.put_text-3.ensures.0 c.put_text-4.ensures.0))
+    patched_then c.put_text.ensures.0 (patched_then c.put_text-2.ensures.0 (patched_then c.put_text-3.ensures.0 c.put_text-4.ensures.0))

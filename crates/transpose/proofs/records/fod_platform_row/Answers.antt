@@ -5,7 +5,7 @@ use Rattle.transpose.proofs.Shown.{answered}
 use Rattle.transpose.proofs.records.fod_platform_row.Goals as goal
 
 pub fod_platform_at-row-requires : goal.fod_platform_at-row-requires
-fod_platform_at-row-requires c = λ e. reachable _ _ _ _ _ (sym (c.place_refused-n.ensures ∙ row_judged _ _ _ _ _ _ c.judge-judged.ensures) ∙ e)
+fod_platform_at-row-requires c = λ e. reachable _ _ _ _ _ (sym (c.place_refused-n.ensures ∙ row_judged _ _ _ _ _ _ (c.number_in-judged.ensures ∙ c.judge.ensures)) ∙ e)
 
 pub returns : goal.returns
-returns c = answered fod_platform_answer _ _ (c.place_refused-n.ensures ∙ row_judged _ _ _ _ _ _ c.judge-judged.ensures) c.fod_platform_at-row.ensures
+returns c = answered fod_platform_answer _ _ (c.place_refused-n.ensures ∙ row_judged _ _ _ _ _ _ (c.number_in-judged.ensures ∙ c.judge.ensures)) c.fod_platform_at-row.ensures

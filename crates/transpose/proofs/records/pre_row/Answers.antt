@@ -6,12 +6,12 @@ use Rattle.transpose.proofs.Shown.{answered, mark_shown}
 use Rattle.transpose.proofs.records.pre_row.Goals as goal
 
 pub mark_at-mark-requires : goal.mark_at-mark-requires
-mark_at-mark-requires c = λ e. attending _ _ _ _ _ (sym (c.place_refused-n.ensures ∙ row_judged _ _ _ _ _ _ c.judge-judged.ensures) ∙ e) refl
+mark_at-mark-requires c = λ e. attending _ _ _ _ _ (sym (c.place_refused-n.ensures ∙ row_judged _ _ _ _ _ _ (c.number_in-judged.ensures ∙ c.judge.ensures)) ∙ e) refl
 
 pub pre_at-row-requires : goal.pre_at-row-requires
-pre_at-row-requires c = λ e. reachable _ _ _ _ _ (sym (c.place_refused-n.ensures ∙ row_judged _ _ _ _ _ _ c.judge-judged.ensures) ∙ e)
+pre_at-row-requires c = λ e. reachable _ _ _ _ _ (sym (c.place_refused-n.ensures ∙ row_judged _ _ _ _ _ _ (c.number_in-judged.ensures ∙ c.judge.ensures)) ∙ e)
 
 pub returns : goal.returns
 returns c =
-    answered pre_answer _ _ (c.place_refused-n.ensures ∙ row_judged _ _ _ _ _ _ c.judge-judged.ensures)
+    answered pre_answer _ _ (c.place_refused-n.ensures ∙ row_judged _ _ _ _ _ _ (c.number_in-judged.ensures ∙ c.judge.ensures))
     (c.pre_at-row.ensures ∙ mark_shown (pre_of _ _) (pre_of no_cells no_version) _ _ c.mark_at-mark.ensures)

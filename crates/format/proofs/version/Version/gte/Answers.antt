@@ -1,17 +1,8 @@
-use mathlib.Core.Path.{refl}
-use native.Mathlib.Omega.{arith}
+use mathlib.Core.Path.{◌∙◌}
 use Rattle.format.specs.Version.{gte_of}
-use Rattle.format.proofs.Versions.{is_above, is_below, is_same}
+use Rattle.format.proofs.Versions.{le_first, le_last}
 use Rattle.format.proofs.version.Version.gte.Goals as goal
-
-pub returns-then-major-self : goal.returns-then-major-self
-unfolding gte_of
-returns-then-major-self c = is_above _ _ _ (omega arith)
-
-pub returns-then-self-major : goal.returns-then-self-major
-unfolding gte_of
-returns-then-self-major c = is_below _ _ _ (omega arith)
 
 pub returns : goal.returns
 unfolding gte_of
-returns c = is_same _ _ _ _ (omega arith) (omega arith) refl
+returns c = let a = c.args in c.le.ensures ∙ le_first a.self.major a.major _ _ (le_last a.self.minor a.minor)

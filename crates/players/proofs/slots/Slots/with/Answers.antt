@@ -1,4 +1,3 @@
-use borrow.Author.Rules.{rules}
 use Rattle.game.specs.Frames.{slot}
 use Rattle.players.proofs.SlotLaws.{grown_one}
 use Rattle.players.proofs.slots.Slots.with.Goals as goal
