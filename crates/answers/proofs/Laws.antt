@@ -1,4 +1,4 @@
--- A walk that came to its end or to a cut, and what the writer refused, in numbers.
+-- A walk that came to its end or to a cut, and what the writers refused, in numbers.
 -- Assumes nothing.
 use Prim.Native.Nat.{ℕ}
 use mathlib.Core.Path.{◌≡◌, sym, ap, ◌∙◌}
@@ -8,7 +8,10 @@ use Rattle.de.specs.declared.Walked.TheVariants.{Done}
 use Rattle.std.specs.Prelude.{Err}
 use Rattle.format.specs.Refused.{Answer, number_of}
 use Rattle.format.specs.declared.refusal.Refusal.{Refusal}
-use Rattle.answers.specs.Answers.{walked, written}
+use Rattle.live.specs.declared.closed.Ends.{Ends}
+use Rattle.answers.specs.Answers.{walked, written, appended_as, closed_as}
+use Rattle.answers.specs.declared.SlpAppended.{SlpAppended}
+use Rattle.answers.specs.declared.SlpClosed.{SlpClosed}
 use Rattle.answers.specs.declared.SlpWalked.{SlpWalked}
 use Rattle.answers.specs.declared.SlpWritten.{SlpWritten}
 
@@ -20,3 +23,11 @@ walk_done {events} {stray} {place} m e = ap (λ n. record { refused = 0; whole =
 pub written_refused : {number : ℕ} {r : Refusal} {w : Answer ℕ} →
     number ≡ number_of r → w ≡ Err r → ◌≡◌ {A = SlpWritten} (record { refused = number; len = 0 }) (written w)
 written_refused n e = ap (λ k. record { refused = k; len = 0 }) n ∙ sym (ap written e)
+
+pub append_refused : {number : ℕ} {r : Refusal} {w : Answer ℕ} →
+    number ≡ number_of r → w ≡ Err r → ◌≡◌ {A = SlpAppended} (record { refused = number; end = 0 }) (appended_as w)
+append_refused n e = ap (λ k. record { refused = k; end = 0 }) n ∙ sym (ap appended_as e)
+
+pub close_refused : {number : ℕ} {r : Refusal} {w : Answer Ends} →
+    number ≡ number_of r → w ≡ Err r → ◌≡◌ {A = SlpClosed} (record { refused = number; events = 0; end = 0 }) (closed_as w)
+close_refused n e = ap (λ k. record { refused = k; events = 0; end = 0 }) n ∙ sym (ap closed_as e)

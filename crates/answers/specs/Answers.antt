@@ -10,9 +10,8 @@ use Rattle.head.specs.declared.Step.{Step}
 use Rattle.de.specs.declared.Walked.{Walked}
 use Rattle.format.specs.declared.refusal.Refusal.{Refusal}
 use Rattle.ser.specs.Write.{WrittenNumbers, written_numbers}
-use Rattle.append.specs.declared.appended.Appended.{Appended}
 use Rattle.append.specs.Run.{AppendedNumbers, appended_numbers}
-use Rattle.live.specs.declared.closed.Closed.{Closed}
+use Rattle.live.specs.declared.closed.Ends.{Ends}
 use Rattle.live.specs.End.{ClosedNumbers, closed_numbers}
 use Rattle.answers.specs.declared.SlpAppended.{SlpAppended}
 use Rattle.answers.specs.declared.SlpClosed.{SlpClosed}
@@ -41,7 +40,7 @@ written w = written_struct (written_numbers w)
 abbrev pub appended_struct : AppendedNumbers → SlpAppended
 appended_struct n = record { refused = n.number; end = n.end }
 
-abbrev pub appended_as : Appended → SlpAppended
+abbrev pub appended_as : Result ℕ Refusal → SlpAppended
 appended_as w = appended_struct (appended_numbers w)
 
 -- 0 keeps an id's first frame, every other number its last
@@ -51,5 +50,5 @@ keep_of keep = cond (yes keep) ExceptLast ExceptFirst
 abbrev pub closed_struct : ClosedNumbers → SlpClosed
 closed_struct n = record { refused = n.number; events = n.events; end = n.end }
 
-abbrev pub closed_as : Closed → SlpClosed
+abbrev pub closed_as : Result Ends Refusal → SlpClosed
 closed_as c = closed_struct (closed_numbers c)

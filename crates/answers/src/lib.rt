@@ -4,11 +4,10 @@
 ghost use Rattle.std.specs.Prelude.{◌≡◌, cond};
 ghost use Rattle.answers.specs.Answers.{stepped, walked, written, appended_as, closed_as};
 
-use append::appended::Appended;
 use de::Walked;
 use format::refusal::Refusal;
 use head::Step;
-use live::closed::Closed;
+use live::closed::Ends;
 
 pub mod mask;
 
@@ -146,26 +145,29 @@ pub fn written_numbers(w: Result<usize, Refusal>) -> SlpWritten
     }
 }
 
-pub fn appended_numbers(w: Appended) -> SlpAppended
+pub fn appended_numbers(w: Result<usize, Refusal>) -> SlpAppended
     ensures { result ≡ appended_as w }
 {
     match w {
-        Appended::End(end) => SlpAppended { refused: 0, end },
-        Appended::Refused(refused) => SlpAppended { refused, end: 0 },
+        Ok(end) => SlpAppended { refused: 0, end },
+        Err(why) => SlpAppended {
+            refused: why.number(),
+            end: 0,
+        },
     }
 }
 
-pub fn closed_numbers(c: Closed) -> SlpClosed
+pub fn closed_numbers(c: Result<Ends, Refusal>) -> SlpClosed
     ensures { result ≡ closed_as c }
 {
     match c {
-        Closed::At { events, end } => SlpClosed {
+        Ok(Ends { events, end }) => SlpClosed {
             refused: 0,
             events,
             end,
         },
-        Closed::Refused(refused) => SlpClosed {
-            refused,
+        Err(why) => SlpClosed {
+            refused: why.number(),
             events: 0,
             end: 0,
         },

@@ -16,7 +16,7 @@ use Rattle.wire.proofs.Laws.{tabulate_length, tabulate_at}
 use Rattle.layout.specs.Payloads.{head_size, record_size}
 use Rattle.layout.specs.declared.columns.Family.{Family}
 use Rattle.layout.specs.declared.columns.Family.TheVariants.{Pre, Post, FrameStart, Item, FrameEnd, FodPlatform, DreamlandWhispy, StadiumTransformation}
-use Rattle.game.specs.Frames.{Slot, no_slot, slots_of, rows_of}
+use Rattle.game.specs.Frames.{Slot, no_slot, slots_of}
 use Rattle.game.specs.Stores.{Lent, Offsets}
 use Rattle.game.specs.declared.frames.Frames.{Frames}
 use Rattle.players.specs.Inner.{slot_in, slots_in, Covers, Modest, Ranges}

@@ -9,7 +9,12 @@ use borrow.Author.Tests.{lt-ltb, le-ltb, ltb-false}
 use lib.Dec.{ltb}
 use lib.ListN.{length}
 use Rattle.wire.specs.Wire.{Room, Wrote}
+use Rattle.std.specs.Prelude.{Ok, Err}
 use Rattle.format.specs.Refusal.{Refusal, refuse, lowest}
+use Rattle.format.specs.Refused.{number_of}
+use Rattle.format.specs.declared.refusal.Refusal as code
+use Rattle.format.specs.declared.refusal.Refusal.TheVariants.{ShortOutput, OutOfRange}
+use Rattle.format.proofs.Numbers.{not_zero}
 use Rattle.format.proofs.Refusals.{here, skip, none, lowest_before, lowest_after}
 use Rattle.format.proofs.Tests.{or_none}
 use Rattle.game.specs.Stores.{Lent}
@@ -18,8 +23,7 @@ use Rattle.frames.specs.Judge.{refusals}
 use Rattle.frames.proofs.Accepted.{numbered, accepted}
 use Rattle.events.specs.Length.{run_length}
 use Rattle.events.proofs.Lengths.{length_run}
-use Rattle.append.specs.Run.{run_events, run_bytes, outside_frames, run_refusal, appended, appended_numbers, left_at, RunOutcome}
-use Rattle.append.specs.declared.appended.Appended.TheVariants.{End, Refused}
+use Rattle.append.specs.Run.{run_events, run_bytes, outside_frames, run_refusal, append_numbers, AppendedNumbers, left_at, RunOutcome}
 use Rattle.append.proofs.Lengths.{framed}
 
 -- ---- the range
@@ -43,7 +47,8 @@ unfolding run_refusal
 decided f s a b place room e = lowest_after (refusals f s 0 0) _ (numbered f s 0 0) e
 
 -- ---- the answers
-refused_as_lem : (k m place : ℕ) (out bytes : List ℕ) → (k ≡ 0 → ⊥) → (appended k m ≡ Refused k) × (left_at k out place bytes ≡ out)
+refused_as_lem : (k m place : ℕ) (out bytes : List ℕ) → (k ≡ 0 → ⊥)
+    → (◌≡◌ {A = AppendedNumbers} (record { kind = 1; number = k; end = 0 }) (append_numbers k m)) × (out ≡ left_at k out place bytes)
 refused_as_lem zero m place out bytes h = absurd (h refl)
 refused_as_lem (suc k) m place out bytes h = (refl, refl)
 
@@ -54,31 +59,31 @@ module _ (f : Frames) (s : Lent) (a b place : ℕ) (out : List ℕ) where
   abbrev last : List Refusal
   last = refuse 13 (outside_frames f a b) ∷ refuse 12 (ltb (length out) (place + length bytes)) ∷ []
 
-  outcome_refused : (k : ℕ) → k ≡ run_refusal f s a b place (length out) → (k ≡ 0 → ⊥) → RunOutcome f s a b place out (Refused k) out
-  outcome_refused k e h =
-      let (x, y) = refused_as_lem k (place + length bytes) place out bytes h in
+  outcome_refused : (r : code.Refusal) → number_of r ≡ run_refusal f s a b place (length out) → RunOutcome f s a b place out (Err r) out
+  outcome_refused r e =
+      let (x, y) = refused_as_lem (number_of r) (place + length bytes) place out bytes (not_zero r) in
       record {
-        answer_is = ap appended_numbers (sym (ap (λ (i : ℕ). appended i (place + length bytes)) (sym e) ∙ x));
-        out_is = sym (ap (λ (i : ℕ). left_at i out place bytes) (sym e) ∙ y);
+        answer_is = x ∙ ap (λ (i : ℕ). append_numbers i (place + length bytes)) e;
+        out_is = y ∙ ap (λ (i : ℕ). left_at i out place bytes) e;
       }
 
-  pub judged_refused : (n : ℕ) → n ≡ lowest (refusals f s 0 0) → (n ≡ 0 → ⊥) → RunOutcome f s a b place out (Refused n) out
+  pub judged_refused : (r : code.Refusal) → number_of r ≡ lowest (refusals f s 0 0) → RunOutcome f s a b place out (Err r) out
   unfolding run_refusal
-  judged_refused n e h = outcome_refused n (e ∙ sym (lowest_before (refusals f s 0 0) last (λ z. h (e ∙ z)))) h
+  judged_refused r e = outcome_refused r (e ∙ sym (lowest_before (refusals f s 0 0) last (λ z. not_zero r (e ∙ z))))
 
   module _ (e : lowest (refusals f s 0 0) ≡ 0) where
-    pub outside_refused : outside_frames f a b ≡ true → RunOutcome f s a b place out (Refused 13) out
-    outside_refused t = outcome_refused 13 (here 13 _ _ t ∙ sym (decided f s a b place (length out) e)) (λ z. absurd (omega (arith, z)))
+    pub outside_refused : outside_frames f a b ≡ true → RunOutcome f s a b place out (Err OutOfRange) out
+    outside_refused t = outcome_refused OutOfRange (here 13 _ _ t ∙ sym (decided f s a b place (length out) e))
 
     module _ (inside : outside_frames f a b ≡ false) where
-      pub short_refused : ltb (length out) (place + length bytes) ≡ true → RunOutcome f s a b place out (Refused 12) out
-      short_refused t = outcome_refused 12 (skip 13 _ _ _ inside (here 12 _ _ t) ∙ sym (decided f s a b place (length out) e)) (λ z. absurd (omega (arith, z)))
+      pub short_refused : ltb (length out) (place + length bytes) ≡ true → RunOutcome f s a b place out (Err ShortOutput) out
+      short_refused t = outcome_refused ShortOutput (skip 13 _ _ _ inside (here 12 _ _ t) ∙ sym (decided f s a b place (length out) e))
 
-      pub run_written : {after : List ℕ} {next : ℕ} → ltb (length out) (place + length bytes) ≡ false → Wrote out after place next bytes → RunOutcome f s a b place out (End next) after
+      pub run_written : {after : List ℕ} {next : ℕ} → ltb (length out) (place + length bytes) ≡ false → Wrote out after place next bytes → RunOutcome f s a b place out (Ok next) after
       run_written t w =
           let z : 0 ≡ run_refusal f s a b place (length out) = skip 13 _ _ _ inside (skip 12 _ _ _ t none) ∙ sym (decided f s a b place (length out) e) in
           record {
-            answer_is = ap appended_numbers (ap End w.next_is ∙ ap (λ (i : ℕ). appended i (place + length bytes)) z);
+            answer_is = ap (append_numbers 0) w.next_is ∙ ap (λ (i : ℕ). append_numbers i (place + length bytes)) z;
             out_is = w.after_is ∙ ap (λ (i : ℕ). left_at i out place bytes) z;
           }
 

@@ -21,8 +21,8 @@ use Rattle.frames.specs.Judge.{refusals}
 use Rattle.events.specs.Events.{frame_events, frames_events}
 use Rattle.events.proofs.Laws.{frames_run}
 use Rattle.events.proofs.AlikeLaws.{ranged_split}
-use Rattle.append.specs.Run.{run_events, run_bytes, run_refusal, appended, AppendedNumbers, appended_numbers, left_at, RunOutcome}
-use Rattle.append.specs.declared.appended.Appended.TheVariants.{End}
+use Rattle.std.specs.Prelude.{Ok}
+use Rattle.append.specs.Run.{run_events, run_bytes, run_refusal, append_numbers, AppendedNumbers, appended_numbers, left_at, RunOutcome}
 use Rattle.append.proofs.Outcomes.{in_order_lem, inside_frames, decided, run_written}
 
 -- ---- an accepted run
@@ -34,7 +34,7 @@ pub record Ran (f : Frames) (s : Lent) (a b place : ℕ) (out : List ℕ) (e : �
   pub wrote : Wrote out out' place e (run_bytes f s a b)
 
 -- an end place is answered where nothing is refused
-answered_end : (k n m : ℕ) → appended_numbers (End n) ≡ appended_numbers (appended k m) → (k ≡ 0) × (n ≡ m)
+answered_end : (k n m : ℕ) → appended_numbers (Ok n) ≡ append_numbers k m → (k ≡ 0) × (n ≡ m)
 answered_end zero n m e = (refl, ap (λ (w : AppendedNumbers). w.end) e)
 answered_end (suc k) n m e = let z : ◌≡◌ {A = ℕ} 0 1 = ap (λ (w : AppendedNumbers). w.kind) e in absurd (omega arith)
 
@@ -43,7 +43,7 @@ left_run zero place out bytes e = refl
 left_run (suc k) place out bytes e = absurd (omega arith)
 
 module _ {f : Frames} {s : Lent} {a b place e : ℕ} {out out' : List ℕ} where
-  pub ran : RunOutcome f s a b place out (End e) out' → Ran f s a b place out e out'
+  pub ran : RunOutcome f s a b place out (Ok e) out' → Ran f s a b place out e out'
   unfolding run_refusal
   ran o =
       let (z, m) = answered_end (run_refusal f s a b place (length out)) e (place + length (run_bytes f s a b)) o.answer_is in
@@ -59,17 +59,17 @@ module _ {f : Frames} {s : Lent} {a b place e : ℕ} {out out' : List ℕ} where
         wrote = record { next_is = m; after_is = o.out_is ∙ left_run (run_refusal f s a b place (length out)) place out (run_bytes f s a b) z };
       }
 
-  pub ran_is : Ran f s a b place out e out' → RunOutcome f s a b place out (End e) out'
+  pub ran_is : Ran f s a b place out e out' → RunOutcome f s a b place out (Ok e) out'
   ran_is r = run_written f s a b place out r.judged (inside_frames f a b r.order r.within) (le-ltb (length out) (place + length (run_bytes f s a b)) r.fits) r.wrote
 
   -- nothing before the place and nothing from the end place on is touched, and between them stands the run
-  pub before_kept : RunOutcome f s a b place out (End e) out' → take place out' ≡ take place out
+  pub before_kept : RunOutcome f s a b place out (Ok e) out' → take place out' ≡ take place out
   before_kept o =
       let r = ran o in
       ap (take place) (r.wrote.after_is ∙ splice_is out place (run_bytes f s a b) r.fits)
       ∙ take_at (take place out) _ place (length-take-le place out (omega (arith, r.fits)))
 
-  pub after_kept : RunOutcome f s a b place out (End e) out' → drop e out' ≡ drop e out
+  pub after_kept : RunOutcome f s a b place out (Ok e) out' → drop e out' ≡ drop e out
   after_kept o =
       let r = ran o in
       let bytes = run_bytes f s a b in
@@ -78,7 +78,7 @@ module _ {f : Frames} {s : Lent} {a b place e : ℕ} {out out' : List ℕ} where
       ∙ drop_at (take place out ++ bytes) _ e n
       ∙ ap (λ (k : ℕ). drop k out) (sym r.wrote.next_is)
 
-  pub run_stands : RunOutcome f s a b place out (End e) out' → part out' place (e - place) ≡ run_bytes f s a b
+  pub run_stands : RunOutcome f s a b place out (Ok e) out' → part out' place (e - place) ≡ run_bytes f s a b
   run_stands o =
       let r = ran o in
       let bytes = run_bytes f s a b in
@@ -121,13 +121,13 @@ module _ {f : Frames} {s : Lent} {a c place e : ℕ} {out out' : List ℕ} where
         },
       )
 
-  pub split : (b : ℕ) → a ≤ b → b ≤ c → RunOutcome f s a c place out (End e) out'
-      → RunOutcome f s a b place out (End (place + length (run_bytes f s a b))) (splice out place (run_bytes f s a b))
-      × RunOutcome f s b c (place + length (run_bytes f s a b)) (splice out place (run_bytes f s a b)) (End e) out'
+  pub split : (b : ℕ) → a ≤ b → b ≤ c → RunOutcome f s a c place out (Ok e) out'
+      → RunOutcome f s a b place out (Ok (place + length (run_bytes f s a b))) (splice out place (run_bytes f s a b))
+      × RunOutcome f s b c (place + length (run_bytes f s a b)) (splice out place (run_bytes f s a b)) (Ok e) out'
   split b h l o = let (x, y) = split_ran b h l (ran o) in (ran_is x, ran_is y)
 
   -- and two runs, of which the second begins where the first ended, are one
-  pub joined : {b m : ℕ} {mid : List ℕ} → RunOutcome f s a b place out (End m) mid → RunOutcome f s b c m mid (End e) out' → RunOutcome f s a c place out (End e) out'
+  pub joined : {b m : ℕ} {mid : List ℕ} → RunOutcome f s a b place out (Ok m) mid → RunOutcome f s b c m mid (Ok e) out' → RunOutcome f s a c place out (Ok e) out'
   joined {b} x y =
       let p = ran x in
       let q = ran y in
@@ -151,7 +151,7 @@ pub record Reached (P : ℕ → List ℕ → Type 0) : Type 0 where
 -- n calls for one frame, from frame i on, each accepted, and each at the end place of the one before
 unfoldable pub Singles : Frames → Lent → ℕ → ℕ → ℕ → List ℕ → ℕ → List ℕ → Type 0
 Singles f s i zero place out e out' = (e ≡ place) × (out' ≡ out)
-Singles f s i (suc n) place out e out' = Reached (λ m mid. RunOutcome f s i (i + 1) place out (End m) mid × Singles f s (i + 1) n m mid e out')
+Singles f s i (suc n) place out e out' = Reached (λ m mid. RunOutcome f s i (i + 1) place out (Ok m) mid × Singles f s (i + 1) n m mid e out')
 
 module _ {f : Frames} {s : Lent} where
   singles_ran : (n i : ℕ) {place e : ℕ} {out out' : List ℕ} → Ran f s i (i + n) place out e out' → Singles f s i n place out e out'
@@ -169,21 +169,21 @@ module _ {f : Frames} {s : Lent} where
       }
 
   -- an accepted run's bytes and end place are those of the single calls
-  pub run_singles : {a b place e : ℕ} {out out' : List ℕ} → RunOutcome f s a b place out (End e) out' → Singles f s a (b - a) place out e out'
+  pub run_singles : {a b place e : ℕ} {out out' : List ℕ} → RunOutcome f s a b place out (Ok e) out' → Singles f s a (b - a) place out e out'
   run_singles {a} {b} {place} {e} {out} {out'} o =
       let r = ran o in
       let k : b ≡ a + (b - a) = omega (arith, r.order) in
       singles_ran (b - a) a (subst (λ (j : ℕ). Ran f s a j place out e out') k r)
 
   -- and single calls after a run make it longer: after an empty run, which says that the place and the game will do, they are the run
-  pub singles_run : (n : ℕ) {a b place m e : ℕ} {out mid out' : List ℕ} → RunOutcome f s a b place out (End m) mid → Singles f s b n m mid e out' → RunOutcome f s a (b + n) place out (End e) out'
+  pub singles_run : (n : ℕ) {a b place m e : ℕ} {out mid out' : List ℕ} → RunOutcome f s a b place out (Ok m) mid → Singles f s b n m mid e out' → RunOutcome f s a (b + n) place out (Ok e) out'
   unfolding Singles
   singles_run zero {a} {b} {place} {m} {e} {out} {mid} {out'} o t =
-      subst (λ (j : ℕ). RunOutcome f s a j place out (End e) out') (sym (add-zero b))
-      (subst (λ (l : List ℕ). RunOutcome f s a b place out (End e) l) (sym t.1) (subst (λ (k : ℕ). RunOutcome f s a b place out (End k) mid) (sym t.0) o))
+      subst (λ (j : ℕ). RunOutcome f s a j place out (Ok e) out') (sym (add-zero b))
+      (subst (λ (l : List ℕ). RunOutcome f s a b place out (Ok e) l) (sym t.1) (subst (λ (k : ℕ). RunOutcome f s a b place out (Ok k) mid) (sym t.0) o))
   singles_run (suc n) {a} {b} {place} {e = e} {out = out} {out' = out'} o t =
       let k : b + 1 + n ≡ b + suc n = omega arith in
-      subst (λ (j : ℕ). RunOutcome f s a j place out (End e) out') k (singles_run n (joined o t.is.0) t.is.1)
+      subst (λ (j : ℕ). RunOutcome f s a j place out (Ok e) out') k (singles_run n (joined o t.is.0) t.is.1)
 
 -- no second end place and no second output come of single calls
 pub singles_only : (f : Frames) (s : Lent) (n i place : ℕ) (out : List ℕ) {e d : ℕ} {x y : List ℕ} → Singles f s i n place out e x → Singles f s i n place out d y → (e ≡ d) × (x ≡ y)
@@ -198,7 +198,7 @@ singles_only f s (suc n) i place out {e} {d} {x} {y} p q =
 
 -- ---- an empty run is accepted at every place of the output, and at none beyond it; it changes nothing
 module _ (f : Frames) (s : Lent) (a place : ℕ) (out : List ℕ) where
-  pub empty_accepted : lowest (refusals f s 0 0) ≡ 0 → a ≤ f.counts.frames → place ≤ length out → RunOutcome f s a a place out (End place) out
+  pub empty_accepted : lowest (refusals f s 0 0) ≡ 0 → a ≤ f.counts.frames → place ≤ length out → RunOutcome f s a a place out (Ok place) out
   empty_accepted e h l =
       let none = empty_run f s a in
       ran_is (record {

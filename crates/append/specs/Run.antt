@@ -1,15 +1,15 @@
 -- A run of frames at a place of an output, and when it is refused.
 -- Assumes nothing.
-use Rattle.std.specs.Prelude.{ℕ, zero, suc, ◌+◌, ◌-◌, ◌≡◌, Bool, ◌||◌, List, [], ◌∷◌, ◌++◌, ltb, length}
+use Rattle.std.specs.Prelude.{ℕ, zero, suc, ◌+◌, ◌-◌, ◌≡◌, Bool, ◌||◌, List, [], ◌∷◌, ◌++◌, ltb, length, Result, Ok, Err}
 use Rattle.wire.specs.Wire.{splice, ranged}
 use Rattle.format.specs.File.{Ev, events_bytes}
 use Rattle.format.specs.Refusal.{refuse, lowest}
+use Rattle.format.specs.Refused.{number_of}
+use Rattle.format.specs.declared.refusal.Refusal as code
 use Rattle.game.specs.Stores.{Lent}
 use Rattle.game.specs.declared.frames.Frames.{Frames}
 use Rattle.frames.specs.Judge.{refusals}
 use Rattle.events.specs.Events.{frame_events}
-use Rattle.append.specs.declared.appended.Appended.{Appended}
-use Rattle.append.specs.declared.appended.Appended.TheVariants.{End, Refused}
 
 -- ---- the run: the events of the frames from a on and before b
 
@@ -36,19 +36,21 @@ run_refusal f s a b place room =
 
 -- ---- what the calls answer, and what the output is afterwards
 
-abbrev pub appended : ℕ → ℕ → Appended
-appended zero end = End end
-appended (suc k) end = Refused (suc k)
-
 -- an answer in numbers: 0 for a run, 1 for a refusal; the refusal's number; the end place
 pub record AppendedNumbers : Type 0 where
   pub kind : ℕ
   pub number : ℕ
   pub end : ℕ
 
-abbrev pub appended_numbers : Appended → AppendedNumbers
-appended_numbers (End n) = record { kind = 0; number = 0; end = n }
-appended_numbers (Refused k) = record { kind = 1; number = k; end = 0 }
+-- of a refusal's number, 0 where none applies, and the end place
+abbrev pub append_numbers : ℕ → ℕ → AppendedNumbers
+append_numbers zero n = record { kind = 0; number = 0; end = n }
+append_numbers (suc k) n = record { kind = 1; number = suc k; end = 0 }
+
+-- of what the calls answer
+abbrev pub appended_numbers : Result ℕ code.Refusal → AppendedNumbers
+appended_numbers (Ok n) = record { kind = 0; number = 0; end = n }
+appended_numbers (Err r) = record { kind = 1; number = number_of r; end = 0 }
 
 -- the output: the run's bytes from the place on and the rest as it was, or all as it was
 abbrev pub left_at : ℕ → List ℕ → ℕ → List ℕ → List ℕ
@@ -56,6 +58,6 @@ left_at zero out place bytes = splice out place bytes
 left_at (suc k) out place bytes = out
 
 -- the run from a up to b; frame i alone is the run from i up to i + 1
-pub record RunOutcome (f : Frames) (s : Lent) (a b place : ℕ) (out : List ℕ) (r : Appended) (out' : List ℕ) : Type 0 where
-  pub answer_is : appended_numbers r ≡ appended_numbers (appended (run_refusal f s a b place (length out)) (place + length (run_bytes f s a b)))
+pub record RunOutcome (f : Frames) (s : Lent) (a b place : ℕ) (out : List ℕ) (r : Result ℕ code.Refusal) (out' : List ℕ) : Type 0 where
+  pub answer_is : appended_numbers r ≡ append_numbers (run_refusal f s a b place (length out)) (place + length (run_bytes f s a b))
   pub out_is : out' ≡ left_at (run_refusal f s a b place (length out)) out place (run_bytes f s a b)

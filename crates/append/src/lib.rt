@@ -1,7 +1,6 @@
 // Frames appended to a lent output at a place of it: a run of them, or one.
 #![tactic(auto)]
 
-pub mod appended;
 mod length;
 pub mod place;
 pub mod run;

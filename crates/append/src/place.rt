@@ -5,10 +5,9 @@ ghost use Rattle.game.specs.Held.{lent_in};
 ghost use Rattle.frames.specs.Judge.{refusals};
 ghost use Rattle.append.specs.Run.{outside_frames, RunOutcome};
 
-use super::appended::Appended;
 use super::length::run_len;
 use events::shapes::shapes_of;
-use format::refusal::SHORT_OUTPUT;
+use format::refusal::Refusal;
 use game::frames::Frames;
 use game::stores::Lent;
 use players::slots::slots_of;
@@ -31,7 +30,7 @@ pub fn put_run(
     lent: &Lent<'_>,
     a: usize,
     b: usize,
-) -> Appended
+) -> Result<usize, Refusal>
     requires { (lowest (refusals f (lent_in lent.now) 0 0) ≡ 0)
         × (outside_frames f a b ≡ false) }
     ensures { RunOutcome f (lent_in lent.now) a b place out.old result out.new }
@@ -40,8 +39,8 @@ pub fn put_run(
     let shapes = shapes_of(f);
     let len = run_len(f, shapes, s, &lent.offsets, lent.presence, a, b);
     if is_short(out.len(), place, len) {
-        return Appended::Refused(SHORT_OUTPUT);
+        return Err(Refusal::ShortOutput);
     }
     let end = events::frame::put_run(out, place, shapes, s, a, b, lent);
-    Appended::End(end)
+    Ok(end)
 }

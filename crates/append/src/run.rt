@@ -3,9 +3,8 @@ ghost use Rattle.std.specs.Prelude.{◌≡◌, ◌+◌};
 ghost use Rattle.game.specs.Held.{lent_in};
 ghost use Rattle.append.specs.Run.{outside_frames, RunOutcome};
 
-use super::appended::Appended;
 use super::place::put_run;
-use format::refusal::{OUT_OF_RANGE, number_in};
+use format::refusal::Refusal;
 use frames::judge::judge;
 use game::frames::Frames;
 use game::stores::Lent;
@@ -25,29 +24,29 @@ pub fn write_frames(
     lent: &Lent<'_>,
     a: usize,
     b: usize,
-) -> Appended
+) -> Result<usize, Refusal>
     ensures { RunOutcome f (lent_in lent.now) a b place out.old result out.new }
 {
-    let n = number_in(judge(f, lent, 0, 0));
-    if n != 0 {
-        return Appended::Refused(n);
-    }
+    judge(f, lent, 0, 0)?;
     if is_outside(f, a, b) {
-        return Appended::Refused(OUT_OF_RANGE);
+        return Err(Refusal::OutOfRange);
     }
     put_run(out, place, f, lent, a, b)
 }
 
 // Frame i alone.
-pub fn write_frame(out: &mut [u8], place: usize, f: Frames, lent: &Lent<'_>, i: usize) -> Appended
+pub fn write_frame(
+    out: &mut [u8],
+    place: usize,
+    f: Frames,
+    lent: &Lent<'_>,
+    i: usize,
+) -> Result<usize, Refusal>
     ensures { RunOutcome f (lent_in lent.now) i (i + 1) place out.old result out.new }
 {
-    let n = number_in(judge(f, lent, 0, 0));
-    if n != 0 {
-        return Appended::Refused(n);
-    }
+    judge(f, lent, 0, 0)?;
     if f.counts.frames <= i {
-        return Appended::Refused(OUT_OF_RANGE);
+        return Err(Refusal::OutOfRange);
     }
     put_run(out, place, f, lent, i, i + 1)
 }

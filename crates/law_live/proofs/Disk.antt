@@ -16,14 +16,13 @@ use Rattle.de.specs.Walk.{walk_of}
 use Rattle.de.specs.Cut.{events_read, called_cut}
 use Rattle.ser.specs.Write.{entries, file, judged}
 use Rattle.ser.proofs.Outcomes.{passes}
+use Rattle.std.specs.Prelude.{Ok}
 use Rattle.append.specs.Run.{run_bytes}
-use Rattle.append.specs.declared.appended.Appended.TheVariants.{End}
 use Rattle.append.proofs.Runs.{ran, run_split, run_stands, empty_run}
 use Rattle.law_part.proofs.Calls.{all_is}
 use Rattle.live.specs.Head.{head_bytes, HeadOutcome}
-use Rattle.live.specs.End.{end_bytes, EndOutcome}
+use Rattle.live.specs.End.{end_bytes, ends_at, EndOutcome}
 use Rattle.live.specs.Length.{field_refusal, field_bytes}
-use Rattle.live.specs.declared.closed.Closed.TheVariants.{At}
 use Rattle.live.proofs.Calls.{began, head_stands, ended, end_stands}
 use Rattle.law_live.specs.Recording.{opening_of, closing_of}
 use Rattle.law_live.specs.Disk.{Piece, Pieces}
@@ -46,9 +45,9 @@ pieces_run f s a (c ∷ cs) b bytes p =
 
 -- the bytes that were put there, whatever calls they came from
 module _ (g : Game) (s : Stores) (ok : lowest (judged g s) ≡ 0) where
-  put_down : {out a : List ℕ} {h : ℕ} → HeadOutcome (opening_of g s) out (End h) a
+  put_down : {out a : List ℕ} {h : ℕ} → HeadOutcome (opening_of g s) out (Ok h) a
       → (bytes : List ℕ) → bytes ≡ all_frames g s
-      → {place m n : ℕ} {to z : List ℕ} → EndOutcome (closing_of g s) place to (At m n) z
+      → {place m n : ℕ} {to z : List ℕ} → EndOutcome (closing_of g s) place to (ends_at m n) z
       → (field_refusal (h + length bytes + (m - place) - 15) ≡ 0)
       × (splice (take h a ++ (bytes ++ part z place (n - place))) 11 (field_bytes (h + length bytes + (m - place) - 15)) ≡ file g s)
   put_down {a = a} {h = h} x bytes same {place} {m} {n} {z = z} y =
@@ -65,27 +64,27 @@ module _ (g : Game) (s : Stores) (ok : lowest (judged g s) ≡ 0) where
 
   -- for every accepted game: the head that was written, the bytes of its runs, and the end that was written, with the field of their event data at 11, are its file; the
   -- field is not refused
-  pub on_disk : {out a : List ℕ} {h : ℕ} → HeadOutcome (opening_of g s) out (End h) a
+  pub on_disk : {out a : List ℕ} {h : ℕ} → HeadOutcome (opening_of g s) out (Ok h) a
       → (cs bytes : List ℕ) → Pieces g.frames s.lent 0 cs g.frames.counts.frames bytes
-      → {place m n : ℕ} {to z : List ℕ} → EndOutcome (closing_of g s) place to (At m n) z
+      → {place m n : ℕ} {to z : List ℕ} → EndOutcome (closing_of g s) place to (ends_at m n) z
       → (field_refusal (h + length bytes + (m - place) - 15) ≡ 0)
       × (splice (take h a ++ (bytes ++ part z place (n - place))) 11 (field_bytes (h + length bytes + (m - place) - 15)) ≡ file g s)
   on_disk x cs bytes p y = put_down x bytes (pieces_run g.frames s.lent 0 cs g.frames.counts.frames bytes p).1 y
 
   -- a game without frames needs no run
-  pub no_frames_lem : g.frames.counts.frames ≡ 0 → {out a : List ℕ} {h : ℕ} → HeadOutcome (opening_of g s) out (End h) a
-      → {place m n : ℕ} {to z : List ℕ} → EndOutcome (closing_of g s) place to (At m n) z
+  pub no_frames_lem : g.frames.counts.frames ≡ 0 → {out a : List ℕ} {h : ℕ} → HeadOutcome (opening_of g s) out (Ok h) a
+      → {place m n : ℕ} {to z : List ℕ} → EndOutcome (closing_of g s) place to (ends_at m n) z
       → (field_refusal (h + 0 + (m - place) - 15) ≡ 0)
       × (splice (take h a ++ part z place (n - place)) 11 (field_bytes (h + 0 + (m - place) - 15)) ≡ file g s)
   no_frames_lem none x y = put_down x [] (sym (empty_run g.frames s.lent 0) ∙ ap (run_bytes g.frames s.lent 0) (sym none)) y
 
 -- ---- before the end: what was put there so far is the head and the first frames
-pub put_so_far : (g : Game) (s : Stores) {out a : List ℕ} {h : ℕ} → HeadOutcome (opening_of g s) out (End h) a
+pub put_so_far : (g : Game) (s : Stores) {out a : List ℕ} {h : ℕ} → HeadOutcome (opening_of g s) out (Ok h) a
     → (k : ℕ) (cs bytes : List ℕ) → Pieces g.frames s.lent 0 cs k bytes → take h a ++ bytes ≡ so_far g s k
 put_so_far g s x k cs bytes p = ap₂ (λ (u v : List ℕ). u ++ v) (head_stands x) (pieces_run g.frames s.lent 0 cs k bytes p).1
 
 -- so that, cut anywhere from the table's end on, it has the events of the same cut of the file, and its answer, cut
-pub put_walk : (g : Game) (s : Stores) → lowest (judged g s) ≡ 0 → {out a : List ℕ} {h : ℕ} → HeadOutcome (opening_of g s) out (End h) a
+pub put_walk : (g : Game) (s : Stores) → lowest (judged g s) ≡ 0 → {out a : List ℕ} {h : ℕ} → HeadOutcome (opening_of g s) out (Ok h) a
     → (k : ℕ) → k ≤ g.frames.counts.frames → (cs bytes : List ℕ) → Pieces g.frames s.lent 0 cs k bytes
     → (j : ℕ) → first_place (entries g s) ≤ j → j ≤ length (take h a ++ bytes)
     → (events_read (take j (take h a ++ bytes)) ≡ events_read (take j (file g s))) × (walk_of (take j (take h a ++ bytes)) ≡ called_cut (walk_of (take j (file g s))))

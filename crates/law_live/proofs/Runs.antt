@@ -8,8 +8,8 @@ use lib.ListN.{length}
 use Rattle.wire.specs.Wire.{splice}
 use Rattle.game.specs.Stores.{Lent}
 use Rattle.game.specs.declared.frames.Frames.{Frames}
+use Rattle.std.specs.Prelude.{Ok}
 use Rattle.append.specs.Run.{run_bytes, RunOutcome}
-use Rattle.append.specs.declared.appended.Appended.TheVariants.{End}
 use Rattle.append.proofs.Runs.{run_split, split, joined}
 use Rattle.law_live.specs.Recording.{Between, InRuns}
 
@@ -19,13 +19,13 @@ between_le a [] b h = h
 between_le a (c ∷ cs) b h = omega (arith, h.0, between_le c cs b h.1)
 
 -- calls for runs are a call for all of them
-pub runs_joined : {f : Frames} {s : Lent} (cs : List ℕ) {a b place e : ℕ} {out out' : List ℕ} → InRuns f s a cs b place out e out' → RunOutcome f s a b place out (End e) out'
+pub runs_joined : {f : Frames} {s : Lent} (cs : List ℕ) {a b place e : ℕ} {out out' : List ℕ} → InRuns f s a cs b place out e out' → RunOutcome f s a b place out (Ok e) out'
 unfolding InRuns
 runs_joined [] r = r
 runs_joined (c ∷ cs) r = joined r.is.0 (runs_joined cs r.is.1)
 
 -- and a call for all of them is calls for any runs
-pub runs_split : {f : Frames} {s : Lent} (cs : List ℕ) {a b place e : ℕ} {out out' : List ℕ} → Between a cs b → RunOutcome f s a b place out (End e) out' → InRuns f s a cs b place out e out'
+pub runs_split : {f : Frames} {s : Lent} (cs : List ℕ) {a b place e : ℕ} {out out' : List ℕ} → Between a cs b → RunOutcome f s a b place out (Ok e) out' → InRuns f s a cs b place out e out'
 unfolding InRuns Between
 runs_split [] h r = r
 runs_split {f} {s} (c ∷ cs) {a} {b} {place} {e} {out} {out'} h r =

@@ -11,18 +11,16 @@ use Rattle.wire.proofs.Laws.{length_splice}
 use Rattle.wire.proofs.Writers.{wrote_then, wrote_length}
 use Rattle.game.specs.Stores.{Stores}
 use Rattle.game.specs.declared.Game.{Game}
-use Rattle.ser.specs.Write.{file, judged, WriterOutcome}
+use Rattle.ser.specs.Write.{file, WriterOutcome}
 use Rattle.std.specs.Prelude.{Ok}
 use Rattle.ser.proofs.Outcomes.{Passed, passes, written}
 use Rattle.ser.proofs.Answered as answered
 use Rattle.ser.proofs.Sound.{length_fits}
 use Rattle.append.specs.Run.{RunOutcome}
-use Rattle.append.specs.declared.appended.Appended.TheVariants.{End}
 use Rattle.append.proofs.Runs.{ran, ran_is}
 use Rattle.live.specs.Head.{head_with, head_bytes, HeadOutcome}
-use Rattle.live.specs.End.{ends_bytes, end_bytes, EndOutcome}
+use Rattle.live.specs.End.{ends_bytes, end_bytes, ends_at, EndOutcome}
 use Rattle.live.specs.Length.{field_refusal, field_bytes}
-use Rattle.live.specs.declared.closed.Closed.TheVariants.{At}
 use Rattle.live.proofs.Calls.{began, began_is, ended, ended_is}
 use Rattle.law_live.specs.Recording.{opening_of, closing_of, Between, Recording}
 use Rattle.law_live.proofs.Parts.{head_length_lem, head_filled, filled_in, all_frames, data_length, length_is, file_is}
@@ -53,8 +51,8 @@ in_pieces {g} {s} p cs h =
 
 -- ---- of the calls
 -- head, runs and end leave them one after another in the output
-laid : {g : Game} {s : Stores} {out a b c : List ℕ} {h e m n : ℕ} → HeadOutcome (opening_of g s) out (End h) a
-    → RunOutcome g.frames s.lent 0 g.frames.counts.frames h a (End e) b → EndOutcome (closing_of g s) e b (At m n) c
+laid : {g : Game} {s : Stores} {out a b c : List ℕ} {h e m n : ℕ} → HeadOutcome (opening_of g s) out (Ok h) a
+    → RunOutcome g.frames s.lent 0 g.frames.counts.frames h a (Ok e) b → EndOutcome (closing_of g s) e b (ends_at m n) c
     → Wrote out c 0 n (head_bytes (opening_of g s) ++ (all_frames g s ++ end_bytes (closing_of g s)))
 laid x y z =
     let p = began x in
@@ -108,10 +106,10 @@ recordable {g} {s} {out} {out'} {n} cs between w =
     let la : length a ≡ length out = length_splice out 0 (head_bytes o) in
     let lb : length b ≡ length a = length_splice a h (all_frames g s) in
     let long : e + length (ends_bytes c) - 15 ≡ data_length g s = omega (arith, head_length_lem o 0) in
-    let x : HeadOutcome o out (End h) a = began_is (record { judged = head_judged_lem g s ok; fits = omega (arith, size, long_enough); next_is = refl; after_is = refl }) in
-    let y : RunOutcome g.frames s.lent 0 g.frames.counts.frames h a (End e) b =
+    let x : HeadOutcome o out (Ok h) a = began_is (record { judged = head_judged_lem g s ok; fits = omega (arith, size, long_enough); next_is = refl; after_is = refl }) in
+    let y : RunOutcome g.frames s.lent 0 g.frames.counts.frames h a (Ok e) b =
     ran_is (record { judged = runs_judged g s ok; order = omega arith; within = omega arith; fits = omega (arith, size, long_enough, la); wrote = record { next_is = refl; after_is = refl } }) in
-    let z : EndOutcome c e b (At (e + length (ends_bytes c)) n) (splice b e (end_bytes c)) =
+    let z : EndOutcome c e b (ends_at (e + length (ends_bytes c)) n) (splice b e (end_bytes c)) =
     ended_is (record { judged = end_judged_lem g s ok; fits = omega (arith, size, long_enough, la, lb); events_is = refl; next_is = omega (arith, size); after_is = refl }) in
     let t = laid x y z in
     let fits : length (head_bytes o ++ rest) ≤ length out = omega (arith, both, ends, size, long_enough) in

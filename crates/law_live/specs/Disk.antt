@@ -1,11 +1,10 @@
 -- A game recorded as it is played: each run is lent as a small game of its own, in an output of its own, and its bytes are put behind what was put before.
 -- Assumes nothing.
-use Rattle.std.specs.Prelude.{ℕ, ◌-◌, ◌≡◌, List, [], ◌∷◌, ◌++◌}
+use Rattle.std.specs.Prelude.{ℕ, ◌-◌, ◌≡◌, List, [], ◌∷◌, ◌++◌, Ok}
 use Rattle.wire.specs.Wire.{part}
 use Rattle.game.specs.Stores.{Lent}
 use Rattle.game.specs.declared.frames.Frames.{Frames}
 use Rattle.append.specs.Run.{RunOutcome}
-use Rattle.append.specs.declared.appended.Appended.TheVariants.{End}
 use Rattle.law_part.specs.Part.{Part}
 
 -- the bytes of a run: a call for all frames of a small game, which is the part of the large one from a on and before b
@@ -17,7 +16,7 @@ pub record Piece (f : Frames) (s : Lent) (a b : ℕ) (bytes : List ℕ) : Type 0
   pub out : List ℕ
   pub end : ℕ
   pub out' : List ℕ
-  pub call : RunOutcome small own 0 small.counts.frames place out (End end) out'
+  pub call : RunOutcome small own 0 small.counts.frames place out (Ok end) out'
   pub bytes_are : bytes ≡ part out' place (end - place)
 
 -- bytes in two parts

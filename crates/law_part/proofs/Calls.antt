@@ -15,8 +15,8 @@ use Rattle.frames.specs.Judge.{refusals}
 use Rattle.frames.specs.Inner.{Accepted}
 use Rattle.frames.proofs.Accepted.{accepted}
 use Rattle.events.specs.Events.{frame_events}
+use Rattle.std.specs.Prelude.{Ok}
 use Rattle.append.specs.Run.{run_events, run_bytes, RunOutcome}
-use Rattle.append.specs.declared.appended.Appended.TheVariants.{End}
 use Rattle.append.proofs.Runs.{ran, ran_is}
 use Rattle.law_part.specs.Part.{Part}
 use Rattle.law_part.proofs.Rows.{ranged_along}
@@ -41,14 +41,14 @@ module _ {f : Frames} {s : Lent} {a b : ℕ} {small : Frames} {own : Lent} (p : 
 
   module _ {place e : ℕ} {out out' : List ℕ} where
     -- of the calls: what a call for the small game's frames answers and leaves, a call for the large game's run answers and leaves
-    pub as_large : lowest (refusals f s 0 0) ≡ 0 → RunOutcome small own 0 small.counts.frames place out (End e) out' → RunOutcome f s a b place out (End e) out'
+    pub as_large : lowest (refusals f s 0 0) ≡ 0 → RunOutcome small own 0 small.counts.frames place out (Ok e) out' → RunOutcome f s a b place out (Ok e) out'
     as_large ok o =
         let r = ran o in
         let same = all_is (accepted small own 0 0 r.judged) in
         ran_is (record { judged = ok; order = omega (arith, p.frames); within = p.within; fits = omega (arith, r.fits, ap length same); wrote = wrote_as same r.wrote })
 
     -- and the other way round
-    pub as_small : lowest (refusals small own 0 0) ≡ 0 → RunOutcome f s a b place out (End e) out' → RunOutcome small own 0 small.counts.frames place out (End e) out'
+    pub as_small : lowest (refusals small own 0 0) ≡ 0 → RunOutcome f s a b place out (Ok e) out' → RunOutcome small own 0 small.counts.frames place out (Ok e) out'
     as_small ok o =
         let r = ran o in
         let same = all_is (accepted small own 0 0 ok) in

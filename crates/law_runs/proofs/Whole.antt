@@ -20,7 +20,6 @@ use Rattle.ser.specs.Write.{entries, game_start_event, events, file, WriterOutco
 use Rattle.std.specs.Prelude.{Ok}
 use Rattle.ser.proofs.Answered.{written_file}
 use Rattle.append.specs.Run.{run_bytes, RunOutcome}
-use Rattle.append.specs.declared.appended.Appended.TheVariants.{End}
 use Rattle.append.proofs.Runs.{run_of_all, run_stands, ran}
 
 module _ (g : Game) (s : Stores) where
@@ -70,7 +69,7 @@ module _ (g : Game) (s : Stores) where
 -- of the calls: whatever `write` answered with a file of n bytes, and `write_frames` for all frames of that game with an end place, what the one left behind the codes and before
 -- the ends is what the other left from its place up to that end
 pub same_bytes_lem : {g : Game} {s : Stores} {out out' to to' : List ℕ} {n place e : ℕ} → WriterOutcome g s out (Ok n) out'
-    → RunOutcome g.frames s.lent 0 g.frames.counts.frames place to (End e) to'
+    → RunOutcome g.frames s.lent 0 g.frames.counts.frames place to (Ok e) to'
     → part (take n out') (length (before_frames g s)) (e - place) ≡ part to' place (e - place)
 same_bytes_lem {g} {s} {out' = out'} {place = place} {e = e} o r =
     let k : e - place ≡ length (all_frames g s) = omega (arith, (ran r).wrote.next_is) in

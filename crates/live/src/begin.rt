@@ -1,12 +1,12 @@
 // The head of a recording: all that stands before its first frame, with a length of zero.
 ghost use Rattle.std.specs.Prelude.{◌≡◌, ◌<◌};
 ghost use Rattle.format.specs.Refusal.{lowest};
+ghost use Rattle.format.specs.Refused.{number_in};
 ghost use Rattle.live.specs.Head.{opening, head_judged, HeadOutcome};
 ghost use Rattle.live.specs.Inner.{head_length};
 
-use append::appended::Appended;
 use codes::blocks::{codes_wrong, put_codes};
-use format::refusal;
+use format::refusal::Refusal;
 use format::version::Version;
 use game::start::Start;
 use ser::file::put_front;
@@ -16,32 +16,32 @@ use start::judge::{block_wrong, is_bad_start};
 use start_block::block::put_block;
 
 // Refusals 1, 2, 8, 9 and 10.
-fn head_refused(
+fn judge_head(
     v: Version,
     begin: Start,
     codes_given: u8,
     actual_size: u32,
     template: &[u8],
     codes: &[u8],
-) -> u8
-    ensures { result ≡ lowest (head_judged (opening v begin codes_given actual_size template.now codes.now)) }
+) -> Result<(), Refusal>
+    ensures { number_in result ≡ lowest (head_judged (opening v begin codes_given actual_size template.now codes.now)) }
 {
-    if v.accepted() {
-        if 16777216 < given_bytes(codes_given, codes) {
-            return refusal::TOO_MANY;
-        }
-        if block_wrong(v, template.len()) {
-            return refusal::BAD_BLOCK;
-        }
-        if is_bad_start(v, begin) {
-            return refusal::BAD_START;
-        }
-        if codes_wrong(v, is_given(codes_given), codes, actual_size) {
-            return refusal::BAD_CODES;
-        }
-        return 0;
+    if !v.accepted() {
+        return Err(Refusal::VersionTooNew);
     }
-    refusal::VERSION_TOO_NEW
+    if 16777216 < given_bytes(codes_given, codes) {
+        return Err(Refusal::TooMany);
+    }
+    if block_wrong(v, template.len()) {
+        return Err(Refusal::BadBlock);
+    }
+    if is_bad_start(v, begin) {
+        return Err(Refusal::BadStart);
+    }
+    if codes_wrong(v, is_given(codes_given), codes, actual_size) {
+        return Err(Refusal::BadCodes);
+    }
+    Ok(())
 }
 
 // How many bytes the head has, by counts.
@@ -64,20 +64,17 @@ pub fn write_head(
     actual_size: u32,
     template: &[u8],
     codes: &[u8],
-) -> Appended
+) -> Result<usize, Refusal>
     ensures { HeadOutcome (opening v begin codes_given actual_size template.now codes.now)
         out.old result out.new }
 {
-    let n = head_refused(v, begin, codes_given, actual_size, template, codes);
-    if n != 0 {
-        return Appended::Refused(n);
-    }
+    judge_head(v, begin, codes_given, actual_size, template, codes)?;
     let len = head_len(v, codes_given, actual_size, template.len());
     if out.len() < len {
-        return Appended::Refused(refusal::SHORT_OUTPUT);
+        return Err(Refusal::ShortOutput);
     }
     let p = put_front(out, 0, v, codes_given, actual_size, template.len(), 0);
     let q = put_block(out, p, template, v, begin);
     let end = put_codes(out, q, is_given(codes_given), codes, actual_size);
-    Appended::End(end)
+    Ok(end)
 }

@@ -17,9 +17,9 @@ use Rattle.layout.specs.Columns.{sum}
 use Rattle.game.specs.Stores.{Lent}
 use Rattle.record.specs.Record.{read_back}
 use Rattle.grammar.specs.WellFormed.{Each}
-use Rattle.read_event.specs.Inner.{Plan, spans_of, span_by, Told, told_at, told_by, opens, open_after, next_after, marked, offset_marked, block_of, seated, row_put, player_put, bit_put, step, run, finish, none, Long, Sized, Spelled, SomeSpelled, Rooms}
-use Rattle.read_event.specs.Parts.{SizedBy, SpelledBy, SomeBy, WholeBy, fold, LeftBy, Rows, RowPlan, RowSpans, RowRooms, first_by, open_told, seen_told, rows_told, Rowing, rowing, go_rows}
-use Rattle.read_event.specs.Parts.{rows_done, rows_run, Seats, Seating, SeatSpans, SeatRooms, seat_told, Seated, seated_as, go_seats, seats_run, row_plan_of, seating_of, rows_of, seats_of, lent_of}
+use Rattle.read_event.specs.Inner.{Plan, span_by, Told, told_at, told_by, opens, open_after, next_after, marked, offset_marked, block_of, seated, row_put, player_put, bit_put, step, run, finish, none, Long}
+use Rattle.read_event.specs.Parts.{SizedBy, SpelledBy, SomeBy, WholeBy, fold, LeftBy, RowPlan, RowSpans, first_by, open_told, Rowing, rowing, go_rows}
+use Rattle.read_event.specs.Parts.{rows_done, rows_run, Seating, SeatSpans, seat_told, Seated, seated_as, go_seats, seats_run, row_plan_of, seating_of, rows_of, seats_of, lent_of}
 use Rattle.read_event.specs.declared.seen.Open.{Open}
 use Rattle.read_event.specs.declared.seen.Seen.{Seen}
 use Rattle.read_event.specs.declared.spans.Spans.{Spans}

@@ -4,13 +4,13 @@ use mathlib.Core.Path.{◌≡◌, refl, sym, ap, ap₂, subst, ◌∙◌}
 use mathlib.Core.Bool.{Bool}
 use mathlib.Core.List.{List, [], ◌∷◌, ◌++◌, map}
 use Prim.Native.Nat.{ℕ, zero, suc, ◌+◌, ◌*◌, ◌/◌, ◌≤◌, ◌<◌}
-use native.Mathlib.Nat.{mul-le-mul}
+use native.Mathlib.Nat.{zero-add}
 use native.Mathlib.Omega.{arith}
-use lib.ListN.{length, get_or, set, take, replicate, length-set, length-replicate, replicate-append-replicate}
-use lib.Seq.{length-take-le, get_or-take, take-take}
+use lib.ListN.{length, get_or, take, drop, replicate, length-replicate}
+use lib.Seq.{length-take-le, get_or-take}
 use lib.ListN.{length-map}
 use Rattle.wire.specs.Wire.{splice, tabulate}
-use Rattle.wire.proofs.Laws.{length_splice, splice_append, tabulate_length, tabulated}
+use Rattle.wire.proofs.Laws.{splice_is, tabulated}
 use Rattle.format.specs.declared.version.Version.{Version}
 use Rattle.format.specs.File.{Ev}
 use Rattle.layout.specs.Columns.{sum, has_family, widths_of}
@@ -18,15 +18,14 @@ use Rattle.layout.specs.Inner.{Widths}
 use Rattle.layout.specs.declared.columns.Family.{Family}
 use Rattle.layout.specs.declared.columns.Family.TheVariants.{Pre, Post, FrameStart, Item, FrameEnd, FodPlatform, DreamlandWhispy, StadiumTransformation}
 use Rattle.layout.specs.declared.listing.Listing.{Listing}
-use Rattle.game.specs.Frames.{Slot, slots_of}
-use Rattle.game.specs.Stores.{Lent, cells, offsets, lent}
+use Rattle.game.specs.Frames.{slots_of}
+use Rattle.game.specs.Stores.{Lent, cells, lent}
 use Rattle.game.specs.declared.frames.Frames.{Frames}
-use Rattle.players.specs.Inner.{slot_in, slots_in, Slotted}
+use Rattle.players.specs.Inner.{slot_in, Slotted}
 use Rattle.players.specs.declared.slots.Slots.{Slots}
 use Rattle.columns.specs.Columns.{slot_number}
 use Rattle.read_event.specs.Inner.{Plan, plan, plan_of, numbers_of, spans_of, run, none, Rooms, Spelled, SomeSpelled, Numbered, zeros, player_cells, presence_cells, cleared}
 use Rattle.read_event.specs.declared.numbers.Numbers.{Numbers}
-use Rattle.read_event.specs.declared.spans.Spans.{Spans}
 
 -- ---- parts of arrays
 
@@ -131,38 +130,15 @@ spans_are f start pre post end item fod whispy stadium p e l =
 
 -- ---- zeros
 
-zeros_snoc : (n : ℕ) → replicate {A = ℕ} (n + 1) 0 ≡ replicate n 0 ++ (0 ∷ [])
-zeros_snoc n = sym (replicate-append-replicate n 1 0)
-
-pub zero_more : (xs ys : List ℕ) (n : ℕ) → ys ≡ splice xs 0 (replicate n 0) → set ys n 0 ≡ splice xs 0 (replicate (n + 1) 0)
-unfolding splice
-zero_more xs ys n e =
-    let s = splice_append xs 0 (replicate n 0) (0 ∷ []) in
-    let l : 0 + length (replicate {A = ℕ} n 0) ≡ n = omega (arith, length-replicate {A = ℕ} n 0) in
-    ap (λ (k : ℕ). set ys k 0) (sym l) ∙ ap (λ (z : List ℕ). set z (0 + length (replicate {A = ℕ} n 0)) 0) e ∙ sym s ∙ ap (splice xs 0) (sym (zeros_snoc n))
-
-pub zero_none : (xs : List ℕ) → xs ≡ splice xs 0 (replicate 0 0)
-unfolding splice
-zero_none xs = refl
-
-pub zero_all : (xs ys : List ℕ) (i n : ℕ) → i ≤ n → n ≤ i → ys ≡ splice xs 0 (replicate i 0) → ys ≡ splice xs 0 (replicate n 0)
-zero_all xs ys i n a b e = let q : i ≡ n = omega arith in e ∙ ap (λ (k : ℕ). splice xs 0 (replicate k 0)) q
-
-pub zero_as : (xs ys : List ℕ) (m n : ℕ) → m ≡ n → ys ≡ splice xs 0 (replicate m 0) → ys ≡ splice xs 0 (replicate n 0)
-zero_as xs ys m n q e = e ∙ ap (λ (k : ℕ). splice xs 0 (replicate k 0)) q
-
--- how many zeros there are
-pub few_zeros : (slots k n : ℕ) → slots ≤ 8 → k ≤ 32 → n ≤ 1048576 → (k * n ≤ 33554432) × (slots * (k * n) ≤ 268435456)
-few_zeros slots k n a b c =
-    let x : k * n ≤ 32 * 1048576 = mul-le-mul b c in
-    let y : slots * (k * n) ≤ 8 * (32 * 1048576) = mul-le-mul a x in
-    (omega arith, omega arith)
-
-pub few_bits : (slots n : ℕ) → slots ≤ 8 → n ≤ 1048576 → slots * ((n + 7) / 8) ≤ 1048584
-few_bits slots n a b =
-    let x : (n + 7) / 8 ≤ 131073 = omega arith in
-    let y : slots * ((n + 7) / 8) ≤ 8 * 131073 = mul-le-mul a x in
-    omega arith
+-- the front of a store, lent and filled with zeros
+pub zeros_filled : (xs ys : List ℕ) (m n : ℕ) → m ≡ n → n ≤ length xs → ys ≡ replicate (length (take m xs)) 0 → ys ++ drop m xs ≡ splice xs 0 (replicate n 0)
+zeros_filled xs ys m n q room e =
+    let far : m ≤ length xs = omega arith in
+    let long : length (take m xs) ≡ m = length-take-le m xs far in
+    let same : ys ≡ replicate m 0 = rw long at e in
+    let whole = splice_is xs 0 (replicate m 0) (rw (length-replicate, zero-add) far) in
+    let front : ys ++ drop m xs ≡ splice xs 0 (replicate m 0) = rw same (sym (rw (length-replicate, zero-add) at whole)) in
+    front ∙ ap (λ (k : ℕ). splice xs 0 (replicate k 0)) q
 
 pub same_zeros : (slots s k j n : ℕ) → slots ≡ s → k ≡ j → slots * (k * n) ≡ s * (j * n)
 same_zeros slots s k j n a b = ap₂ (λ (x y : ℕ). x * (y * n)) a b

@@ -6,7 +6,7 @@ use Rattle.layout.specs.Columns.{sum}
 use Rattle.game.specs.Stores.{Lent, cells, offsets, lent}
 use Rattle.game.specs.declared.frames.Counts.{Counts}
 use Rattle.grammar.specs.WellFormed.{Each}
-use Rattle.read_event.specs.Inner.{Plan, Told, told_by, span_by, spans_of, opens, open_after, next_after, marked, offset_marked, row_put, player_put, bit_put, none, Roomy}
+use Rattle.read_event.specs.Inner.{Plan, Told, told_by, span_by, opens, open_after, next_after, marked, offset_marked, row_put, player_put, bit_put, none, Roomy}
 use Rattle.read_event.specs.declared.seen.Open.{Open}
 use Rattle.read_event.specs.declared.seen.Seen.{Seen}
 use Rattle.read_event.specs.declared.spans.Spans.{Spans}

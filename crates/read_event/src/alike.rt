@@ -13,13 +13,11 @@ pub fn is_repeated(file: &[u8], at: usize, step: usize) -> bool
 {
     let first = file[at];
     let mut p = at;
-    let mut t: usize = 0;
-    while t < 7 {
+    for _ in 0..7usize {
         p += step;
         if file[p] != first {
             return false;
         }
-        t += 1;
     }
     true
 }
@@ -38,7 +36,7 @@ pub fn is_ahead(
     requires { (at < stop) × (first ≤ 1048577) }
     ensures { result ≡ true → Ahead z start file.now at stop step first frames }
 {
-    if start {} else {
+    if !start {
         return false;
     }
     if step < z.start {
@@ -84,10 +82,8 @@ pub fn put_steps(file: &[u8], places: &mut [usize], i: usize, at: usize, step: u
     ensures { places.new ≡ steps_put i at step 8 places.old }
 {
     let mut p = at;
-    let mut t: usize = 0;
-    while t < 8 {
+    for t in 0..8 {
         places[i + t] = p;
         p += step;
-        t += 1;
     }
 }

@@ -16,12 +16,8 @@ pub fn numbers_of(f: Frames, s: Slots) -> Numbers
     ensures { Numbered f result.count result.of }
 {
     let mut of = [0u32; 8];
-    let mut k: usize = 0;
-    while k < 8 {
-        let port = wire::wide(s.ports[k]);
-        let follower = wire::wide(s.followers[k]);
-        of[k] = (2 * port + follower) as u32;
-        k += 1;
+    for k in 0..8 {
+        of[k] = 2 * s.ports[k] as u32 + s.followers[k] as u32;
     }
     Numbers { count: s.count, of }
 }

@@ -89,12 +89,10 @@ fn put_stage(
         n.stadiums,
     );
     Next {
-        starts: n.starts,
-        ends: n.ends,
-        items: n.items,
         fods: e,
         whispys: g,
         stadiums: h,
+        ..n
     }
 }
 
@@ -145,14 +143,7 @@ pub fn put_rows(
             c.frames,
             n.starts,
         );
-        return Next {
-            starts: row,
-            ends: n.ends,
-            items: n.items,
-            fods: n.fods,
-            whispys: n.whispys,
-            stadiums: n.stadiums,
-        };
+        return Next { starts: row, ..n };
     }
     if code == FRAME_END {
         let row = put_row(
@@ -164,14 +155,7 @@ pub fn put_rows(
             c.frames,
             n.ends,
         );
-        return Next {
-            starts: n.starts,
-            ends: row,
-            items: n.items,
-            fods: n.fods,
-            whispys: n.whispys,
-            stadiums: n.stadiums,
-        };
+        return Next { ends: row, ..n };
     }
     if code == ITEM {
         let row = put_row(
@@ -183,14 +167,7 @@ pub fn put_rows(
             c.items,
             n.items,
         );
-        return Next {
-            starts: n.starts,
-            ends: n.ends,
-            items: row,
-            fods: n.fods,
-            whispys: n.whispys,
-            stadiums: n.stadiums,
-        };
+        return Next { items: row, ..n };
     }
     put_stage(code, file, at, widths, k, n, fods, whispys, stadiums)
 }

@@ -9,14 +9,12 @@ use format::event::{FRAME_POST, FRAME_PRE};
 fn block_of(numbers: &[u32], slot: usize) -> usize
     ensures { result ≡ index_of slot numbers.now }
 {
-    let mut k: usize = 0;
-    while k < numbers.len() {
+    for k in 0..numbers.len() {
         if numbers[k] as usize == slot {
             return k;
         }
-        k += 1;
     }
-    k
+    numbers.len()
 }
 
 // The block of the player whose event stands at a place.
@@ -67,7 +65,7 @@ pub fn with_bit(b: u8, k: usize) -> u8
     requires { k < 8 }
     ensures { result ≡ (b + 2 ^ k) % 256 }
 {
-    ((wire::wide(b) + (1usize << k)) % 256) as u8
+    b.wrapping_add(1 << k)
 }
 
 // A player's bit, where the event is of the family; n frames began.

@@ -8,28 +8,6 @@ use game::frames::Frames;
 use layout::columns::Family;
 use layout::listing::columns;
 
-pub fn clear_cells(cells: &mut [u32], n: usize)
-    requires { n ≤ length cells.old }
-    ensures { cells.new ≡ zeros n cells.old }
-{
-    let mut i: usize = 0;
-    while i < n {
-        cells[i] = 0;
-        i += 1;
-    }
-}
-
-pub fn clear_bytes(bytes: &mut [u8], n: usize)
-    requires { n ≤ length bytes.old }
-    ensures { bytes.new ≡ zeros n bytes.old }
-{
-    let mut i: usize = 0;
-    while i < n {
-        bytes[i] = 0;
-        i += 1;
-    }
-}
-
 // Zeros for all rows and bits of players: those of absent ones stay.
 pub fn clear_players(
     f: Frames,
@@ -45,7 +23,7 @@ pub fn clear_players(
         × (presence.new ≡ zeros (presence_cells f) presence.old) }
 {
     let n = f.counts.frames;
-    clear_cells(pres, slots * (columns(Family::Pre, f.version) * n));
-    clear_cells(posts, slots * (columns(Family::Post, f.version) * n));
-    clear_bytes(presence, slots * ((n + 7) / 8));
+    pres[..slots * (columns(Family::Pre, f.version) * n)].fill(0);
+    posts[..slots * (columns(Family::Post, f.version) * n)].fill(0);
+    presence[..slots * ((n + 7) / 8)].fill(0);
 }

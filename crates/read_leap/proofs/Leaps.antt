@@ -1,21 +1,21 @@
 -- The laws of eight frames a step apart: their numbers and rows one after another, what one of them brings, and frame after frame.
 -- Assumes nothing.
 use mathlib.Core.Path.{◌≡◌, refl, sym, ap, ap₂, subst, ◌∙◌}
-use mathlib.Core.Bool.{Bool, true, false, cond, ◌&&◌}
+use mathlib.Core.Bool.{Bool, true, false, cond}
 use mathlib.Core.List.{List}
 use Prim.Native.Nat.{ℕ, zero, suc, ◌+◌, ◌*◌, ◌%◌, ◌≤◌, ◌<◌}
 use native.Mathlib.Nat.{add-zero, suc-mul}
 use native.Mathlib.Numerals.{add-one}
 use native.Mathlib.Omega.{arith}
 use borrow.Author.Tests.{ltb-true, ltb-false, ne_eqb, lt-ltb}
-use lib.Dec.{eqb, ltb}
+use lib.Dec.{ltb}
 use lib.ListN.{length, get_or, drop, replicate, length-replicate}
 use Rattle.layout.specs.Columns.{sum}
 use Rattle.record.specs.Record.{read_back}
 use Rattle.gather.specs.Inner.{rows_at, Reach}
-use Rattle.read_event.specs.Inner.{Told, told_at, span_by, opens, open_after, next_after, marked, offset_marked, row_put, row_next, none}
+use Rattle.read_event.specs.Inner.{Told, told_at, span_by, opens, open_after, next_after, marked, offset_marked, row_put, row_next}
 use Rattle.read_event.specs.Alike.{Ahead, GoesOn, steps_put}
-use Rattle.read_event.specs.Parts.{SomeBy, WholeBy, fold, LeftBy, Rows, rows, RowPlan, RowSpans, Rowing, rowing, go_rows}
+use Rattle.read_event.specs.Parts.{SomeBy, WholeBy, LeftBy, Rows, rows, RowPlan, RowSpans, Rowing, rowing, go_rows}
 use Rattle.read_event.specs.declared.seen.Open.{Open}
 use Rattle.read_event.specs.declared.seen.Seen.{Seen}
 use Rattle.read_event.specs.declared.spans.Spans.{Spans}

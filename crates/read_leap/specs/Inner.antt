@@ -1,10 +1,10 @@
 -- What functions promise each other of eight frames a step apart that have players' events alone between FrameStart and FrameEnd.
 -- Assumes nothing.
-use Rattle.std.specs.Prelude.{ℕ, zero, suc, ◌+◌, ◌*◌, ◌≤◌, ◌<◌, ◌≡◌, Bool, true, false, cond, List, ltb, get_or, drop}
+use Rattle.std.specs.Prelude.{ℕ, zero, suc, ◌+◌, ◌*◌, ◌≤◌, ◌<◌, ◌≡◌, Bool, true, cond, List, get_or, drop}
 use Rattle.record.specs.Record.{read_back}
 use Rattle.read_event.specs.Inner.{told_at, marked, offset_marked}
 use Rattle.read_event.specs.Alike.{Same, Ahead}
-use Rattle.read_event.specs.Parts.{SomeBy, LeftBy, Rows, rows, RowPlan, RowSpans, Rowing, go_rows}
+use Rattle.read_event.specs.Parts.{SomeBy, LeftBy, RowPlan, RowSpans, Rowing, go_rows}
 use Rattle.read_event.specs.declared.seen.Seen.{Seen}
 use Rattle.read_event.specs.declared.spans.Spans.{Spans}
 

@@ -31,6 +31,7 @@ fn ends_at(file: &[u8], c: Course, at: usize, stop: usize, step: usize, was: usi
     if is_ahead(file, z, c.start, at, stop, step, was + 1, n.frames) {
         let next = at + step;
         let mut e = at + z.start;
+        // Each event's own code says how far the next one is: no range or step counts them.
         while e < next {
             let span = goes_on(file, z, e, next, step);
             if span == 0 {
@@ -86,12 +87,10 @@ fn put_ids(file: &[u8], at: usize, step: usize, n: usize, ids: &mut [u32])
     requires { (at + (8 * step) ≤ length file.now) × (5 ≤ step) × (n ≤ 1048576) }
     ensures { ids.new ≡ ids_put file.now at step 8 n ids.old }
 {
-    let mut t: usize = 0;
     let mut p = at;
-    while t < 8 {
+    for t in 0..8 {
         mark(ids, true, n + t, wire::get_be(file, p + 1, 4));
         p += step;
-        t += 1;
     }
 }
 
@@ -102,10 +101,8 @@ fn put_offsets(on: bool, n: usize, rows: usize, offsets: &mut [u32])
 {
     if on {
         let x = (rows % 4294967296) as u32;
-        let mut t: usize = 0;
-        while t < 8 {
+        for t in 0..8 {
             mark(offsets, true, n + t, x);
-            t += 1;
         }
     }
 }

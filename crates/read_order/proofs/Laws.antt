@@ -33,12 +33,12 @@ room_go p n span top h l = let e = one_more n span h in (omega arith, omega arit
 
 module _ (o : Order) (file : List ℕ) (span p k : ℕ) where
   -- the first of one is the last
-  alone : (n : ℕ) → nobody (due_in file span (p + span) n) ≡ eqb (suc n) 1
+  alone : (n : ℕ) → nobody (due_in file span (p + span) n) ≡ eqb (suc n - 1) 0
   unfolding due_in nobody
   alone zero = refl
-  alone (suc n) = sym (ne_eqb (suc (suc n)) 1 (λ e. omega arith))
+  alone (suc n) = sym (ne_eqb (suc (suc n) - 1) 0 (λ e. omega arith))
 
-  pub due_go : (n : ℕ) → 0 < n → (j : ℕ) → j ≡ slot_at file p → (b : Bool) → b ≡ may_precede o (eqb n 1) j k → b ≡ true
+  pub due_go : (n : ℕ) → 0 < n → (j : ℕ) → j ≡ slot_at file p → (b : Bool) → b ≡ may_precede o (eqb (n - 1) 0) j k → b ≡ true
       → may_come o (due_in file span p n) k ≡ may_come o (due_in file span (p + span) (n - 1)) k
   unfolding due_in may_come
   due_go zero h j x b y z = absurd (omega arith)
@@ -47,7 +47,7 @@ module _ (o : Order) (file : List ℕ) (span p k : ℕ) where
       let t : may_precede o (nobody (due_in file span (p + span) n)) (slot_at file p) k ≡ true = ap₂ (λ (r : Bool) (i : ℕ). may_precede o r i k) (alone n) (sym x) ∙ sym y ∙ z in
       rw (t, e)
 
-  pub due_stop : (n : ℕ) → 0 < n → (j : ℕ) → j ≡ slot_at file p → (b : Bool) → b ≡ may_precede o (eqb n 1) j k → b ≡ false → may_come o (due_in file span p n) k ≡ false
+  pub due_stop : (n : ℕ) → 0 < n → (j : ℕ) → j ≡ slot_at file p → (b : Bool) → b ≡ may_precede o (eqb (n - 1) 0) j k → b ≡ false → may_come o (due_in file span p n) k ≡ false
   unfolding due_in may_come
   due_stop zero h j x b y z = absurd (omega arith)
   due_stop (suc n) h j x b y z =

@@ -13,7 +13,7 @@ use Rattle.layout.specs.Columns.{has_family}
 use Rattle.layout.specs.declared.columns.Family.{Family}
 use Rattle.layout.specs.declared.columns.Family.TheVariants.{Pre, Post, FrameStart, Item, FrameEnd, FodPlatform, DreamlandWhispy, StadiumTransformation}
 use Rattle.grammar.specs.WellFormed.{nobody, Order, may_come}
-use Rattle.grammar.specs.Machine.{slot_said, is_next, closed, in_frame, player, orderly, state, rank_of, due_after, after}
+use Rattle.grammar.specs.Machine.{slot_said, is_next, closed, in_frame, player, orderly, state, rank_of, due_after}
 use Rattle.read_order.specs.Inner.{slot_at, due_in, said_of, state_in, inside, closed_at, stands, next_at, end_at, JoinedAt, Ready, After, RowAfter}
 use Rattle.read_order.specs.declared.stage.Stage.{Stage}
 use Rattle.read_order.specs.declared.stage.Word.{Word}

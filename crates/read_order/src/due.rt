@@ -51,15 +51,12 @@ pub fn may_come(
     ensures { result ≡ may_come (order_of order) (due_in file.now span pre due) k }
 {
     let mut p = pre;
-    let mut n = due;
-    while 0 < n {
+    for n in (0..due).rev() {
         let j = slot_at(file, p);
-        if stands_before(order, n == 1, j, k) {
-            p += span;
-            n -= 1;
-        } else {
+        if !stands_before(order, n == 0, j, k) {
             return false;
         }
+        p += span;
     }
     true
 }

@@ -46,7 +46,7 @@ fn with_row(file: &[u8], span: usize, m: Stage, rank: u8, w: Word, next: usize) 
     ensures { RowAfter file.now span m rank w next result }
 {
     Stage {
-        rank: rank,
+        rank,
         id: w.id,
         pre: m.pre,
         due: m.due,

@@ -3,13 +3,15 @@
 use mathlib.Core.Path.{◌≡◌, refl, sym, ap, ◌∙◌}
 use mathlib.Core.Bool.{Bool, true, false, not, cond, ◌&&◌}
 use mathlib.Core.List.{List, [], ◌∷◌}
-use Prim.Native.Nat.{ℕ, suc, ◌+◌, ◌-◌, ◌*◌, ◌%◌, ◌≤◌, ◌<◌}
+use Prim.Native.Nat.{ℕ, zero, suc, ◌+◌, ◌-◌, ◌*◌, ◌%◌, ◌≤◌, ◌<◌}
 use native.Mathlib.Nat.{sub-zero}
+use native.Mathlib.Numerals.{add-one}
 use native.Mathlib.Omega.{arith}
 use borrow.Author.Tests.{lt-ltb, le-ltb, le-leb, lt-leb, eq-eqb, ne_eqb, leb-true}
 use lib.Dec.{leb, eqb}
+use lib.Pointwise.{pointwise}
 use lib.ListN.{length, get_or, take, drop, length-drop}
-use lib.Seq.{get_or-take, get_or-drop, length-take-le}
+use lib.Seq.{drop-cons, get_or-take, get_or-drop, length-take-le}
 use Rattle.wire.specs.Wire.{part, ranged, Room, Wrote}
 use Rattle.wire.proofs.Laws.{length_ranged_below}
 use Rattle.format.specs.Version.{gte_of, has_initiator, has_placements}
@@ -229,35 +231,21 @@ module _ (v : Version) (file spans : List ℕ) (stop at : ℕ) (e : Bool) (e-is 
   unfolding right_at
   right_as q r i = rw (sym e-is ∙ q) i
 
--- ---- bytes that are alike: the answer is that of what is left
+-- ---- bytes that are alike, pair by pair
 
-pub record Comparing (file : List ℕ) (a b n p q left : ℕ) : Type 0 where
-  pub first_is : p + left ≡ a + n
-  pub second_is : q + left ≡ b + n
-  pub same : same_run file a b n ≡ same_run file p q left
+run_pairs : (file : List ℕ) (n a b : ℕ) → a + n ≤ length file → b + n ≤ length file → pointwise eqb (take n (drop a file)) (take n (drop b file)) ≡ same_run file a b n
+unfolding same_run
+run_pairs file zero a b h k = refl
+run_pairs file (suc n) a b h k =
+    rw (drop-cons file a 0 (omega arith), drop-cons file b 0 (omega arith), add-one a, add-one b)
+    (ap (λ (r : Bool). eqb (get_or file a 0) (get_or file b 0) && r) (run_pairs file n (suc a) (suc b) (omega arith) (omega arith)))
 
-module _ (file : List ℕ) (a b n : ℕ) where
-  pub compare_first : Comparing file a b n a b n
-  compare_first = record { first_is = refl; second_is = refl; same = refl }
-
-  module _ (p q left : ℕ) (c : Comparing file a b n p q left) where
-    one_byte : 0 < left → same_run file p q left ≡ (eqb (get_or file p 0) (get_or file q 0) && same_run file (p + 1) (q + 1) (left - 1))
-    unfolding same_run
-    one_byte l = let e : left ≡ suc (left - 1) = omega arith in ap (λ (k : ℕ). same_run file p q k) e
-
-    pub compare_not : 0 < left → (get_or file p 0 ≡ get_or file q 0 → ⊥) → false ≡ same_run file a b n
-    compare_not l h = sym (c.same ∙ one_byte l ∙ rw (ne_eqb (get_or file p 0) (get_or file q 0) h))
-
-    pub compare_next : 0 < left → get_or file p 0 ≡ get_or file q 0 → Comparing file a b n (p + 1) (q + 1) (left - 1)
-    compare_next l h = record {
-      first_is = omega (arith, c.first_is);
-      second_is = omega (arith, c.second_is);
-      same = c.same ∙ one_byte l ∙ rw (eq-eqb (get_or file p 0) (get_or file q 0) h);
-    }
-
-    pub compare_done : left ≤ 0 → true ≡ same_run file a b n
-    unfolding same_run
-    compare_done l = let e : left ≡ 0 = omega arith in sym (c.same ∙ ap (λ (k : ℕ). same_run file p q k) e)
+pub run_same : (file : List ℕ) (a b n : ℕ) → a + n ≤ length file → b + n ≤ length file
+    → pointwise eqb (take (a + n - a) (drop a file)) (take (b + n - b) (drop b file)) ≡ same_run file a b n
+run_same file a b n h k =
+    let x : a + n - a ≡ n = omega arith in
+    let y : b + n - b ≡ n = omega arith in
+    rw (x, y) (run_pairs file n a b h k)
 
 -- ---- one end or two
 
@@ -330,38 +318,23 @@ module _ (v : Version) (file : List ℕ) (at : ℕ) (b : Bool) where
   unfolding initiator_in
   named_as e t = rw (sym e ∙ t) (byte_in file at (end_size v) 1 (omega (arith, size_two v b e t)))
 
-  module _ (e : b ≡ has_placements v) where
-    pub placed_none : b ≡ false → four_zeros ≡ placed_in v (part file at (end_size v))
-    unfolding placed_in
-    placed_none t = rw (sym e ∙ t)
-
-    pub placements_none : b ≡ false → four_zeros ≡ placements_in v (part file at (end_size v))
-    unfolding placements_in
-    placements_none t = rw (sym e ∙ t)
+  -- of the four placements
+  module _ (e : b ≡ has_placements v) (f : ℕ → ℕ) where
+    pub four_none : b ≡ false → four_zeros ≡ cond (has_placements v) (of_four f (part file at (end_size v))) four_zeros
+    four_none t = rw (sym e ∙ t)
 
     module _ (t : b ≡ true) where
-      at_byte : (f : ℕ → ℕ) (k x : ℕ) → k < 6 → x ≡ f (get_or file (at + k) 0) → x ≡ f (get_or (part file at (end_size v)) k 0)
-      at_byte f k x l q = q ∙ ap f (byte_in file at (end_size v) k (omega (arith, size_six v b e t)))
+      at_byte : (k x : ℕ) → k < 6 → x ≡ f (get_or file (at + k) 0) → x ≡ f (get_or (part file at (end_size v)) k 0)
+      at_byte k x l q = q ∙ ap f (byte_in file at (end_size v) k (omega (arith, size_six v b e t)))
 
-      four_as : (f : ℕ → ℕ) (w x y z : ℕ) → w ≡ f (get_or file (at + 2) 0) → x ≡ f (get_or file (at + 3) 0) → y ≡ f (get_or file (at + 4) 0) → z ≡ f (get_or file (at + 5) 0)
-          → w ∷ x ∷ y ∷ z ∷ [] ≡ of_four f (part file at (end_size v))
-      four_as f w x y z p q r s =
-          let p' = at_byte f 2 w (omega arith) p in
-          let q' = at_byte f 3 x (omega arith) q in
-          let r' = at_byte f 4 y (omega arith) r in
-          let s' = at_byte f 5 z (omega arith) s in
-          λ i. p' i ∷ q' i ∷ r' i ∷ s' i ∷ []
-
-      module _ (w x y z : ℕ) where
-        pub placed_as : w ≡ mark_by (get_or file (at + 2) 0) → x ≡ mark_by (get_or file (at + 3) 0) → y ≡ mark_by (get_or file (at + 4) 0) → z ≡ mark_by (get_or file (at + 5) 0)
-            → w ∷ x ∷ y ∷ z ∷ [] ≡ placed_in v (part file at (end_size v))
-        unfolding placed_in
-        placed_as p q r s = rw (sym e ∙ t) (four_as mark_by w x y z p q r s)
-
-        pub placements_as : w ≡ value_by (get_or file (at + 2) 0) → x ≡ value_by (get_or file (at + 3) 0) → y ≡ value_by (get_or file (at + 4) 0) → z ≡ value_by (get_or file (at + 5) 0)
-            → w ∷ x ∷ y ∷ z ∷ [] ≡ placements_in v (part file at (end_size v))
-        unfolding placements_in
-        placements_as p q r s = rw (sym e ∙ t) (four_as value_by w x y z p q r s)
+      pub four_as : (w x y z : ℕ) → w ≡ f (get_or file (at + 2) 0) → x ≡ f (get_or file (at + 3) 0) → y ≡ f (get_or file (at + 4) 0) → z ≡ f (get_or file (at + 5) 0)
+          → w ∷ x ∷ y ∷ z ∷ [] ≡ cond (has_placements v) (of_four f (part file at (end_size v))) four_zeros
+      four_as w x y z p q r s =
+          let p' = at_byte 2 w (omega arith) p in
+          let q' = at_byte 3 x (omega arith) q in
+          let r' = at_byte 4 y (omega arith) r in
+          let s' = at_byte 5 z (omega arith) s in
+          rw (sym e ∙ t) (λ i. p' i ∷ q' i ∷ r' i ∷ s' i ∷ [])
 
 pub end_as : (v : Version) (p : List ℕ) (method initiator : ℕ) (placed placements : List ℕ) → method ≡ get_or p 0 0 → initiator ≡ initiator_in v p → placed ≡ placed_in v p
     → placements ≡ placements_in v p

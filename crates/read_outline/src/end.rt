@@ -1,8 +1,9 @@
 // One end at a place, and what it says.
-ghost use Rattle.std.specs.Prelude.{◌≡◌, true, ◌+◌, ◌≤◌, length};
+ghost use Rattle.std.specs.Prelude.{◌≡◌, ℕ, cond, true, ◌+◌, ◌≤◌, length};
 ghost use Rattle.wire.specs.Wire.{part};
+ghost use Rattle.format.specs.Version.{has_placements};
 ghost use Rattle.layout.specs.Payloads.{end_size};
-ghost use Rattle.read_outline.specs.End.{mark_by, value_by, initiator_in, placed_in, placements_in};
+ghost use Rattle.read_outline.specs.End.{mark_by, value_by, of_four, four_zeros, initiator_in, placed_in, placements_in};
 ghost use Rattle.read_outline.specs.Inner.{Within, initiator_at, end_here, right_at, same_run, second_at};
 
 use format::event::GAME_END;
@@ -56,18 +57,7 @@ fn same_run(file: &[u8], a: usize, b: usize, n: usize) -> bool
     requires { (a + n ≤ length file.now) × (b + n ≤ length file.now) }
     ensures { result ≡ same_run file.now a b n }
 {
-    let mut p = a;
-    let mut q = b;
-    let mut left = n;
-    while 0 < left {
-        if file[p] != file[q] {
-            return false;
-        }
-        p += 1;
-        q += 1;
-        left -= 1;
-    }
-    true
+    file[a..a + n] == file[b..b + n]
 }
 
 // Whether a second end, like the first, fills the rest.
@@ -91,6 +81,17 @@ pub fn is_second(
     false
 }
 
+// Who ended the game: 255 is nobody.
+pub fn initiator_in(file: &[u8], at: usize, v: Version) -> u8
+    requires { at + end_size v ≤ length file.now }
+    ensures { result ≡ initiator_in v (part file.now at (end_size v)) }
+{
+    if v.has_initiator() {
+        return file[at + 1];
+    }
+    255
+}
+
 // Whether a placement is one, and which: 255 is none.
 fn mark(b: u8) -> u8
     ensures { result ≡ mark_by b }
@@ -110,44 +111,50 @@ fn value(b: u8) -> u8
     b
 }
 
-// Who ended the game: 255 is nobody.
-pub fn initiator_in(file: &[u8], at: usize, v: Version) -> u8
-    requires { at + end_size v ≤ length file.now }
-    ensures { result ≡ initiator_in v (part file.now at (end_size v)) }
+// What each byte of the placements says, where the version has them.
+fn of_four<F: Fn(u8) -> u8>(file: &[u8], at: usize, v: Version, one: F) -> [u8; 4]
+    requires { (at + end_size v ≤ length file.now) × F.IsAlwaysCallable one }
+    ensures { (f : ℕ → ℕ)
+        → ((x y : ℕ) → F.post one x y → y ≡ f x)
+        → result ≡ cond (has_placements v) (of_four f (part file.now at (end_size v))) four_zeros }
 {
-    if v.has_initiator() {
-        return file[at + 1];
+    if v.has_placements() {
+        return [
+            one(file[at + 2]),
+            one(file[at + 3]),
+            one(file[at + 4]),
+            one(file[at + 5]),
+        ];
     }
-    255
+    [0u8; 4]
 }
 
-// Who was placed.
+// Who was placed, as marks: 255 is none.
 pub fn placed_in(file: &[u8], at: usize, v: Version) -> [u8; 4]
     requires { at + end_size v ≤ length file.now }
     ensures { result ≡ placed_in v (part file.now at (end_size v)) }
 {
-    if v.has_placements() {
-        return [
-            mark(file[at + 2]),
-            mark(file[at + 3]),
-            mark(file[at + 4]),
-            mark(file[at + 5]),
-        ];
-    }
-    [0, 0, 0, 0]
+    of_four(
+        file,
+        at,
+        v,
+        |b|
+            ensures { result ≡ mark_by b }
+        { mark(b) },
+    )
 }
 
+// And where.
 pub fn placements_in(file: &[u8], at: usize, v: Version) -> [u8; 4]
     requires { at + end_size v ≤ length file.now }
     ensures { result ≡ placements_in v (part file.now at (end_size v)) }
 {
-    if v.has_placements() {
-        return [
-            value(file[at + 2]),
-            value(file[at + 3]),
-            value(file[at + 4]),
-            value(file[at + 5]),
-        ];
-    }
-    [0, 0, 0, 0]
+    of_four(
+        file,
+        at,
+        v,
+        |b|
+            ensures { result ≡ value_by b }
+        { value(b) },
+    )
 }

@@ -22,7 +22,7 @@ use format::version::Version;
 use game::end::End;
 use layout::payloads::end_size;
 
-// Blocks up to the last one, of which there is one at least.
+// Blocks up to the last one, of which there is one at least. How many they are is only known behind the last of them.
 fn blocks(file: &[u8], spans: &[u32], v: Version, first: usize, stop: usize) -> Codes
     requires { Within file.now spans.now stop first }
     ensures { result ≡ blocks_from v file.now spans.now stop (suc stop) first 0 }
@@ -59,11 +59,9 @@ pub fn copy_codes(file: &[u8], first: usize, blocks: usize, codes: &mut [u8])
     ensures { codes.new ≡ splice codes.old 0 (ranged (λ b. part file.now (first + 517 * b + 1) 512) 0 blocks) }
 {
     let mut p: usize = 0;
-    let mut b: usize = 0;
-    while b < blocks {
+    for b in 0..blocks {
         let from = first + 517 * b + 1;
         p = wire::put_bytes(codes, p, &file[from..from + 512]);
-        b += 1;
     }
 }
 

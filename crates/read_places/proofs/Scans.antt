@@ -7,7 +7,7 @@ use Prim.Native.Nat.{ℕ, zero, suc, ◌+◌, ◌*◌, ◌%◌, ◌≤◌, ◌<�
 use native.Mathlib.Nat.{add-zero}
 use native.Mathlib.Numerals.{add-one}
 use native.Mathlib.Omega.{arith}
-use borrow.Author.Tests.{eqb-true, eq-eqb, ne_eqb}
+use borrow.Author.Tests.{eq-eqb, ne_eqb}
 use lib.Arith.{digits_mod}
 use lib.Dec.{eqb}
 use lib.ListN.{length, get_or, set, length-set}
@@ -18,9 +18,9 @@ use Rattle.read_event.specs.Inner.{told_at, span_by, opens, open_after}
 use Rattle.read_event.specs.Parts.{SomeBy, WholeBy, LeftBy, first_by, open_told, Seats, seats, Seating, SeatSpans, seat_told, Seated, seated_as, go_seats}
 use Rattle.read_event.specs.declared.seen.Open.{Open}
 use Rattle.read_event.specs.declared.spans.Spans.{Spans}
-use Rattle.read_event.proofs.Leaves.{opened_off, open_room, player_off, bit_off, first_other}
+use Rattle.read_event.proofs.Leaves.{opened_off, open_room, player_off, bit_off}
 use Rattle.read_event.proofs.Parts.{some_whole, some_next, left_next, seats_agrees}
-use Rattle.read_places.specs.Inner.{is_players, seat, frame_at, frames_at, Leads, Scanned, Batched, Stays}
+use Rattle.read_places.specs.Inner.{is_players, seat, frame_at, frames_at, Scanned, Batched, Stays}
 use Rattle.read_places.specs.declared.scan.Scan.{Scan}
 use Rattle.read_places.specs.declared.scan.Batch.{Batch}
 
@@ -266,13 +266,13 @@ module _ (z : Spans) (start : Bool) (frames : ℕ) (file : List ℕ) (at stop : 
     leads = λ q v r a all k. rw (add-zero s.opened.frames) (c.leads q v r a all k);
   }
 
-  module _ {places ps : List ℕ} {next count m first : ℕ} {last : Open} {s : Scan} (b : Batched z start frames file at stop o places (batch_of next count m first last))
-      (h : m < 8) (c : Scanned z start frames file next stop last m places ps s) where
-    kept : (q : Seating) (x : Seats) → frames_at q file places count m first x ≡ frames_at q file ps count m first x
-    kept q x = frames_same q file places ps count m first x b.many (λ k l. sym (c.others k (λ e. omega arith)))
+  module _ {places ps : List ℕ} {found : Batch} {m : ℕ} {s : Scan} (b : Batched z start frames file at stop o places found) (are : found.many ≡ m) (h : m < 8)
+      (c : Scanned z start frames file found.next stop found.opened m places ps s) where
+    kept : (q : Seating) (x : Seats) → frames_at q file places found.count found.many found.first x ≡ frames_at q file ps found.count found.many found.first x
+    kept q x = frames_same q file places ps found.count found.many found.first x b.many (λ k l. sym (c.others k (λ e. omega arith)))
 
     -- a frame that does not go with them
-    pub batch_kept : Batched z start frames file at stop o ps (batch_of next count m first last)
+    pub batch_kept : Batched z start frames file at stop o ps found
     batch_kept = record {
       whole = c.whole;
       some = b.some;
@@ -281,11 +281,12 @@ module _ (z : Spans) (start : Bool) (frames : ℕ) (file : List ℕ) (at stop : 
       many = b.many;
       bound = b.bound;
       begun = b.begun;
-      leads = λ q v r a all k. subst (λ (y : Seats). LeftBy (go_seats start q) z file next stop (seated_as last y) all) (kept q a) (b.leads q v r a all k);
+      leads = λ q v r a all k. subst (λ (y : Seats). LeftBy (go_seats start q) z file found.next stop (seated_as found.opened y) all) (kept q a) (b.leads q v r a all k);
     }
 
     -- and one that does
-    pub batch_more : s.count ≡ count → s.opened.frames ≡ first + m → Batched z start frames file at stop o ps (batch_of s.next count (m + 1) first s.opened)
+    pub batch_more : s.count ≡ found.count → s.opened.frames ≡ found.first + m
+        → Batched z start frames file at stop o ps (batch_of s.next found.count (m + 1) found.first s.opened)
     unfolding frames_at
     batch_more e f = record {
       whole = c.whole;
@@ -296,8 +297,10 @@ module _ (z : Spans) (start : Bool) (frames : ℕ) (file : List ℕ) (at stop : 
       bound = omega (arith, c.bound, f);
       begun = c.bound;
       leads = λ q v r a all k.
-          let one = c.leads q v r (frames_at q file places count m first a) all (b.leads q v r a all k) in
-          let same : frame_at q file ps m s.count s.opened.frames (frames_at q file places count m first a) ≡ frames_at q file ps count (m + 1) first a =
-          ap₂ (λ (x n : ℕ). frame_at q file ps m x n (frames_at q file places count m first a)) e f ∙ ap (frame_at q file ps m count (first + m)) (kept q a) ∙ rw (add-one m) in
+          let before = frames_at q file places found.count found.many found.first a in
+          let one = c.leads q v r before all (b.leads q v r a all k) in
+          let here = kept q a ∙ ap (λ (n : ℕ). frames_at q file ps found.count n found.first a) are in
+          let same : frame_at q file ps m s.count s.opened.frames before ≡ frames_at q file ps found.count (m + 1) found.first a =
+          ap₂ (λ (x n : ℕ). frame_at q file ps m x n before) e f ∙ ap (frame_at q file ps m found.count (found.first + m)) here ∙ rw (add-one m) in
           subst (λ (y : Seats). LeftBy (go_seats start q) z file s.next stop (seated_as s.opened y) all) same one;
     }

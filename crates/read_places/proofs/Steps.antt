@@ -12,14 +12,13 @@ use lib.ListN.{length, get_or}
 use Rattle.grammar.specs.WellFormed.{Each}
 use Rattle.read_event.specs.Inner.{told_at, span_by, opens, open_after}
 use Rattle.read_event.specs.Alike.{Ahead, GoesOn, steps_put}
-use Rattle.read_event.specs.Parts.{SomeBy, WholeBy, LeftBy, open_told, first_by, Seats, Seating, SeatSpans, Seated, seated_as, go_seats}
+use Rattle.read_event.specs.Parts.{SomeBy, WholeBy, LeftBy, open_told, first_by, Seats, Seating, Seated, seated_as, go_seats}
 use Rattle.read_event.specs.declared.seen.Open.{Open}
 use Rattle.read_event.specs.declared.spans.Spans.{Spans}
 use Rattle.read_event.proofs.Leaves.{opened_off}
 use Rattle.read_event.proofs.Likeness.{place_first, step_in_lem, steps_get, steps_before}
 use Rattle.read_event.proofs.Parts.{some_whole, some_next, left_next, seats_agrees}
 use Rattle.read_places.specs.Inner.{is_players, open_of, seat, frame_at, frames_at, Leads, Part, Following, Followed, Batched}
-use Rattle.read_places.specs.declared.scan.Batch.{Batch}
 use Rattle.read_places.proofs.Scans.{each_set, frame_same, nobody, batch_of}
 
 -- ---- places a step apart

@@ -48,6 +48,7 @@ fn follow(
         let next = at + step;
         let mut e = at + z.start;
         let mut j: usize = 0;
+        // Each event's own code says how far the next one is: no range or step counts them.
         while e < next {
             let span = goes_on(file, z, e, next, step);
             if span == 0 {

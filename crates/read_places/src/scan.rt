@@ -106,14 +106,12 @@ fn scan_frame(
         × Each (WholeBy z file.now) places.old }
     ensures { Scanned z start frames file.now at stop (open_of was id) t places.old places.new result }
 {
-    let o = Open {
-        frames: was,
-        id: id,
-    };
+    let o = Open { frames: was, id };
     let begun = open_at(file, at, start, frames, o);
     let mut j = note(places, file[at], at, t, 0);
     let mut e = at + span_of(z, file[at]);
     let mut on = stays(file, e, stop, start, frames, begun, j);
+    // Each event's own code says how far the next one is: no range or step counts them.
     while on {
         let code = file[e];
         j = note(places, code, e, t, j);
@@ -148,60 +146,30 @@ pub fn find_frames(
     ensures { Batched z start frames file.now at stop (open_of was id) places.new result }
 {
     let s = scan_frame(file, z, start, frames, at, stop, was, id, 0, places);
-    let first = s.opened.frames;
-    let count = s.count;
-    let mut next = s.next;
-    let mut last = s.opened;
-    let mut m: usize = 1;
-    while m < 8 {
-        if stop <= next {
-            return Batch {
-                next: next,
-                count: count,
-                many: m,
-                first: first,
-                opened: last,
-            };
+    let mut b = Batch {
+        next: s.next,
+        count: s.count,
+        many: 1,
+        first: s.opened.frames,
+        opened: s.opened,
+    };
+    for m in 1..8 {
+        if stop <= b.next {
+            return b;
         }
+        let o = b.opened;
         let x = scan_frame(
-            file,
-            z,
-            start,
-            frames,
-            next,
-            stop,
-            last.frames,
-            last.id,
-            m,
-            places,
+            file, z, start, frames, b.next, stop, o.frames, o.id, m, places,
         );
-        if x.count != count {
-            return Batch {
-                next: next,
-                count: count,
-                many: m,
-                first: first,
-                opened: last,
-            };
+        if x.count != b.count {
+            return b;
         }
-        if x.opened.frames != first + m {
-            return Batch {
-                next: next,
-                count: count,
-                many: m,
-                first: first,
-                opened: last,
-            };
+        if x.opened.frames != b.first + m {
+            return b;
         }
-        next = x.next;
-        last = x.opened;
-        m += 1;
+        b.next = x.next;
+        b.many = m + 1;
+        b.opened = x.opened;
     }
-    Batch {
-        next: next,
-        count: count,
-        many: m,
-        first: first,
-        opened: last,
-    }
+    b
 }

@@ -33,13 +33,11 @@ fn starts_alike(file: &[u8], last: usize, step: usize) -> bool
 {
     let code = file[last];
     let mut p = last;
-    let mut t: usize = 0;
-    while t < 8 {
+    for _ in 0..8usize {
         p += step;
         if file[p] != code {
             return false;
         }
-        t += 1;
     }
     true
 }
@@ -52,8 +50,7 @@ fn heads_alike(file: &[u8], last: usize, e: usize, step: usize) -> bool
     let code = file[e];
     let mut p = e;
     let mut q = last;
-    let mut t: usize = 0;
-    while t < 8 {
+    for _ in 0..8usize {
         p += step;
         q += step;
         if file[p] != code {
@@ -62,7 +59,6 @@ fn heads_alike(file: &[u8], last: usize, e: usize, step: usize) -> bool
         if four(file, p + 1) != four(file, q + 1) {
             return false;
         }
-        t += 1;
     }
     true
 }
@@ -74,13 +70,11 @@ fn seats_alike(file: &[u8], e: usize, step: usize) -> bool
 {
     let seat = two(file, e + 5);
     let mut p = e;
-    let mut t: usize = 0;
-    while t < 8 {
+    for _ in 0..8usize {
         p += step;
         if two(file, p + 5) != seat {
             return false;
         }
-        t += 1;
     }
     true
 }
@@ -105,7 +99,7 @@ fn event_alike(file: &[u8], last: usize, e: usize, step: usize) -> bool
     false
 }
 
-// Whether all events do that stand from `first` up to a place.
+// Whether all events do that stand from `first` up to a place. How far each goes is read from it, so that they are no range.
 fn rest_alike(file: &[u8], spans: &[u32], last: usize, first: usize, at: usize, step: usize) -> bool
     requires { (last ≤ at) × (at + (8 * step + 7) ≤ length file.now) × (length spans.now ≡ 256) }
     ensures { result ≡ true → Rest file.now spans.now last first at step }
@@ -119,11 +113,10 @@ fn rest_alike(file: &[u8], spans: &[u32], last: usize, first: usize, at: usize, 
         if at - e < n {
             return false;
         }
-        if event_alike(file, last, e, step) {
-            e += n;
-        } else {
+        if !event_alike(file, last, e, step) {
             return false;
         }
+        e += n;
     }
     true
 }

@@ -127,8 +127,8 @@ pub fn try_event(
                 let next = at + n;
                 let stage = moved(file, span, m, family, w, at, next);
                 return Turn::Goes {
-                    stage: stage,
-                    next: next,
+                    stage,
+                    next,
                     word: w,
                 };
             }

@@ -27,25 +27,16 @@ pub fn leapt(file: &[u8], m: Stage, tally: Tally, last: usize, at: usize) -> Lea
     let mut y = begun(tally, m.id, first);
     let mut old = first;
     let mut p = at + step;
-    let mut t: usize = 0;
-    while t < 7 {
+    for _ in 0..7usize {
         let id = wire::get_be(file, p + 1, 4);
         y = begun_next(y, old, id);
         old = id;
         p += step;
-        t += 1;
     }
-    let stage = Stage {
-        rank: m.rank,
-        id: old,
-        pre: m.pre,
-        due: m.due,
-    };
-    let by = 8 * step;
     Leap {
-        stage: stage,
+        stage: Stage { id: old, ..m },
         tally: y,
-        by: by,
+        by: 8 * step,
     }
 }
 
@@ -54,13 +45,11 @@ pub fn begins(family: Family, last: usize, at: usize) -> usize
     ensures { result ≡ begin_of family last at }
 {
     match family {
-        Family::Pre => last,
-        Family::Post => last,
-        Family::FrameStart => at,
-        Family::Item => at,
-        Family::FrameEnd => last,
-        Family::FodPlatform => at,
-        Family::DreamlandWhispy => at,
-        Family::StadiumTransformation => at,
+        Family::Pre | Family::Post | Family::FrameEnd => last,
+        Family::FrameStart
+        | Family::Item
+        | Family::FodPlatform
+        | Family::DreamlandWhispy
+        | Family::StadiumTransformation => at,
     }
 }

@@ -48,12 +48,13 @@ fn ended(v: Version, m: Stage, at: usize, t: Tally) -> Ran
     ensures { (ran_of result ≡ ends_at v m at) × (tally_in result ≡ tells_at v m t) }
 {
     if is_closed(v, m) {
-        return Ran::Ended { at: at, tally: t };
+        return Ran::Ended { at, tally: t };
     }
     Ran::Wrong
 }
 
-// The frames from a place on, in one pass. Spans are by code: one more than the payloads' sizes, 0 where the table lacks the code.
+// The frames from a place on, in one pass. Spans are by code: one more than the payloads' sizes, 0 where the table lacks the code. How far
+// each turn goes is read from the file, so that the places are no range.
 pub fn frames(
     file: &[u8],
     spans: &[u32],
@@ -92,11 +93,7 @@ pub fn frames(
             Turn::Refused => {
                 return Ran::Wrong;
             }
-            Turn::Goes {
-                stage: stage,
-                next: next,
-                word: word,
-            } => {
+            Turn::Goes { stage, next, word } => {
                 tally = counted(tally, m, family, word);
                 last = begins(family, last, at);
                 m = stage;

@@ -22,31 +22,23 @@ fn span_in(v: Version, family: Family) -> usize
 pub fn sizes_of(v: Version) -> [usize; 8]
     ensures { result ≡ sizes_in v }
 {
-    let pre = span_in(v, Family::Pre);
-    let post = span_in(v, Family::Post);
-    let start = span_in(v, Family::FrameStart);
-    let item = span_in(v, Family::Item);
-    let end = span_in(v, Family::FrameEnd);
-    let fod = span_in(v, Family::FodPlatform);
-    let whispy = span_in(v, Family::DreamlandWhispy);
-    let stadium = span_in(v, Family::StadiumTransformation);
-    [pre, post, start, item, end, fod, whispy, stadium]
+    [
+        span_in(v, Family::Pre),
+        span_in(v, Family::Post),
+        span_in(v, Family::FrameStart),
+        span_in(v, Family::Item),
+        span_in(v, Family::FrameEnd),
+        span_in(v, Family::FodPlatform),
+        span_in(v, Family::DreamlandWhispy),
+        span_in(v, Family::StadiumTransformation),
+    ]
 }
 
 // A family's index: its place in the declaration.
 fn index(family: Family) -> usize
     ensures { (result ≡ index_of family) × (result < 8) }
 {
-    match family {
-        Family::Pre => 0,
-        Family::Post => 1,
-        Family::FrameStart => 2,
-        Family::Item => 3,
-        Family::FrameEnd => 4,
-        Family::FodPlatform => 5,
-        Family::DreamlandWhispy => 6,
-        Family::StadiumTransformation => 7,
-    }
+    family as usize
 }
 
 // Whether the version has the family, with events of this span.

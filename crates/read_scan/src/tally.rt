@@ -3,7 +3,7 @@ ghost use Rattle.std.specs.Prelude.{◌≡◌, true, ◌<◌};
 ghost use Rattle.layout.specs.declared.columns.Family.TheVariants.{Pre};
 ghost use Rattle.grammar.specs.Machine.{slot_said, player};
 ghost use Rattle.read_order.specs.Inner.{said_of};
-ghost use Rattle.read_scan.specs.Counts.{no_tally, begun_at, sat, fod_more, whispy_more, stadium_more, item_more, counted_of, Room};
+ghost use Rattle.read_scan.specs.Counts.{no_tally, begun_at, sat, counted_of, Room};
 
 use layout::columns::Family;
 use read_order::stage::{Stage, Word, is_inside, slot};
@@ -40,10 +40,11 @@ pub fn begun(t: Tally, old: u32, id: u32) -> Tally
     requires { Room t }
     ensures { result ≡ begun_at t old id }
 {
-    let mut u = t;
-    u.frames = t.frames + 1;
-    u.changing = t.changing & ((t.frames == 0) | !(old == id));
-    u
+    Tally {
+        frames: t.frames + 1,
+        changing: t.changing & ((t.frames == 0) | (old != id)),
+        ..t
+    }
 }
 
 // A frame of this id begins, after one that was counted: then the first frame is behind.
@@ -51,10 +52,11 @@ pub fn begun_next(t: Tally, old: u32, id: u32) -> Tally
     requires { Room t × (0 < t.frames) }
     ensures { result ≡ begun_at t old id }
 {
-    let mut u = t;
-    u.frames = t.frames + 1;
-    u.changing = t.changing & !(old == id);
-    u
+    Tally {
+        frames: t.frames + 1,
+        changing: t.changing & (old != id),
+        ..t
+    }
 }
 
 // A player is there.
@@ -62,9 +64,10 @@ fn with_player(t: Tally, w: Word) -> Tally
     requires { player (said_of w) ≡ true }
     ensures { result ≡ sat t (slot_said (said_of w)) }
 {
-    let mut u = t;
-    u.slots = t.slots | (1usize << slot(w));
-    u
+    Tally {
+        slots: t.slots | (1usize << slot(w)),
+        ..t
+    }
 }
 
 // A Pre came: it is of the frame, or begins one.
@@ -78,59 +81,31 @@ fn with_pre(t: Tally, m: Stage, w: Word) -> Tally
     with_player(begun(t, m.id, w.id), w)
 }
 
-// A row of a platform came.
-fn with_fod(t: Tally) -> Tally
-    requires { Room t }
-    ensures { result ≡ fod_more t }
-{
-    let mut u = t;
-    u.fods = t.fods + 1;
-    u
-}
-
-// A row of Dreamland's wind came.
-fn with_whispy(t: Tally) -> Tally
-    requires { Room t }
-    ensures { result ≡ whispy_more t }
-{
-    let mut u = t;
-    u.whispys = t.whispys + 1;
-    u
-}
-
-// A row of the stadium came.
-fn with_stadium(t: Tally) -> Tally
-    requires { Room t }
-    ensures { result ≡ stadium_more t }
-{
-    let mut u = t;
-    u.stadiums = t.stadiums + 1;
-    u
-}
-
-// An item's row came.
-fn with_item(t: Tally) -> Tally
-    requires { Room t }
-    ensures { result ≡ item_more t }
-{
-    let mut u = t;
-    u.items = t.items + 1;
-    u
-}
-
 // What is counted after an event that was taken where a frame stood.
+#[tactic(auto, unfolding(crate::specs::Counts::counted_of))]
 pub fn counted(t: Tally, m: Stage, family: Family, w: Word) -> Tally
     requires { Room t × (family ≡ Pre → player (said_of w) ≡ true) }
     ensures { result ≡ counted_of t m.rank m.id family (said_of w) }
 {
     match family {
         Family::Pre => with_pre(t, m, w),
-        Family::Post => t,
         Family::FrameStart => begun(t, m.id, w.id),
-        Family::FodPlatform => with_fod(t),
-        Family::DreamlandWhispy => with_whispy(t),
-        Family::StadiumTransformation => with_stadium(t),
-        Family::Item => with_item(t),
-        Family::FrameEnd => t,
+        Family::FodPlatform => Tally {
+            fods: t.fods + 1,
+            ..t
+        },
+        Family::DreamlandWhispy => Tally {
+            whispys: t.whispys + 1,
+            ..t
+        },
+        Family::StadiumTransformation => Tally {
+            stadiums: t.stadiums + 1,
+            ..t
+        },
+        Family::Item => Tally {
+            items: t.items + 1,
+            ..t
+        },
+        Family::Post | Family::FrameEnd => t,
     }
 }

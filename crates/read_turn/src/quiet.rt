@@ -35,6 +35,7 @@ pub fn after_quiet(file: &[u8], z: Spans, start: bool, o: Open, at: usize, stop:
     ensures { Nothing z start o file.now at stop result }
 {
     let mut e = at;
+    // Each event's own code says how far the next one is: no range or step counts them.
     while e < stop {
         if is_quiet(file, e, start, o) {
             e += player_span(z, file[e]);

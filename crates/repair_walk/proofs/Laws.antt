@@ -44,6 +44,11 @@ module _ (file spans : List ℕ) (stop at : ℕ) where
       let l = ltb-true 0 n b in
       record { inside = ltb-true at stop a; on = omega arith; ends = leb-true (at + n) stop c }
 
+  -- all three tests
+  pub there : at < stop → 0 < span_at spans file at → at + span_at spans file at ≤ stop → is_whole file spans stop at ≡ true
+  unfolding is_whole
+  there a b c = rw (lt-ltb at stop a, lt-ltb 0 (span_at spans file at) b, le-leb (at + span_at spans file at) stop c)
+
 -- ---- the loop: what is left gives the answer
 
 pub record Passing (file spans : List ℕ) (stop first at n : ℕ) : Type 0 where

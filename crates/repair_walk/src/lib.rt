@@ -14,7 +14,7 @@ pub struct Passed {
 }
 
 // Whether an event that is listed stands whole before stop.
-fn is_whole(file: &[u8], spans: &[u32], at: usize, stop: usize) -> bool
+pub fn is_whole(file: &[u8], spans: &[u32], at: usize, stop: usize) -> bool
     requires { (stop ≤ length file.now) × (length spans.now ≡ 256) }
     ensures { result ≡ is_whole file.now spans.now stop at }
 {
@@ -34,6 +34,7 @@ pub fn pass_events(file: &[u8], spans: &[u32], first: usize, stop: usize) -> Pas
 {
     let mut at = first;
     let mut events: usize = 0;
+    // A `while`: each event's span says where the next one stands.
     while is_whole(file, spans, at, stop) {
         at += span_of(spans, file[at]);
         events += 1;

@@ -102,8 +102,8 @@ module _ (f : Frames) (s : Lent) (number slot a b room : ℕ) where
   run_judged zero e = sym (last_decides (sym e))
   run_judged (suc n) e = first_refuses (suc n) e (λ z. absurd (omega (arith, z)))
 
-  pub rest_decides : {n m : ℕ} → n ≡ lowest (refusals f s 0 0) → n ≡ 0 → m ≡ run_refused 0 f number slot a b room → m ≡ rows_run_refusal f s number slot a b room
-  rest_decides {n} e z h = h ∙ ap (λ (k : ℕ). run_refused k f number slot a b room) (sym z) ∙ run_judged n e
+  pub rest_decides : {m : ℕ} → 0 ≡ lowest (refusals f s 0 0) → m ≡ run_refused 0 f number slot a b room → m ≡ rows_run_refusal f s number slot a b room
+  rest_decides e h = h ∙ run_judged 0 e
 
   module _ (e : rows_run_refusal f s number slot a b room ≡ 0) where
     pub run_first : lowest (refusals f s 0 0) ≡ 0

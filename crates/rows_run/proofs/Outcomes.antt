@@ -1,6 +1,6 @@
 -- From the arms of a family to any family, and from what was put to what the call answers.
 -- Assumes nothing.
-use mathlib.Core.Path.{◌≡◌, refl, sym, ap, subst, ◌∙◌}
+use mathlib.Core.Path.{◌≡◌, sym, ap, subst, ◌∙◌}
 use mathlib.Core.Bool.{false}
 use mathlib.Core.List.{List, []}
 use Prim.Native.Nat.{ℕ, ◌-◌}
@@ -9,8 +9,7 @@ use lib.ListN.{length}
 use Rattle.wire.specs.Wire.{Room, Wrote, ranged}
 use Rattle.wire.proofs.Writers.{room_as, wrote_as}
 use Rattle.layout.specs.declared.columns.Family.{Family}
-use Rattle.layout.specs.declared.columns.Family.TheVariants.{Pre, Post, FrameStart, Item, FrameEnd, FodPlatform, DreamlandWhispy, StadiumTransformation}
-use Rattle.game.specs.Stores.{Cells, Lent, cells, cells_of}
+use Rattle.game.specs.Stores.{Cells, Lent, cells_of}
 use Rattle.game.specs.declared.frames.Frames.{Frames}
 use Rattle.transpose.specs.Answers.{unless_refused}
 use Rattle.transpose.proofs.Shown.{given_none, given_row}

@@ -10,7 +10,7 @@ ghost use Rattle.rows_run.specs.Inner.{Running, run_refused};
 
 use super::family::{family_of, of_players};
 use super::fill::{put_plain_run, put_player_run};
-use format::refusal::{Refusal, number_in};
+use format::refusal::Refusal;
 use format::version::Version;
 use frames::judge::judge;
 use game::frames::Frames;
@@ -99,16 +99,15 @@ pub fn rows_of_run(
 ) -> Run
     ensures { RowsOutcome f (lent_in lent.now) family slot a b out.old result out.new }
 {
-    let judged = number_in(judge(f, lent, 0, 0));
-    if judged != 0 {
+    if let Err(why) = judge(f, lent, 0, 0) {
         return Run {
-            refused: judged,
+            refused: why.number(),
             len: 0,
         };
     }
-    if let Err(r) = judge_run(f, family, slot, a, b, out.len()) {
+    if let Err(why) = judge_run(f, family, slot, a, b, out.len()) {
         return Run {
-            refused: r.number(),
+            refused: why.number(),
             len: 0,
         };
     }

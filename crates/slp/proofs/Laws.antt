@@ -16,7 +16,6 @@ use Rattle.format.specs.declared.refusal.Refusal.{Refusal}
 use Rattle.game.specs.Stores.{Lent, Stores}
 use Rattle.game.specs.declared.frames.Frames.{Frames}
 use Rattle.append.specs.Run as append
-use Rattle.append.specs.declared.appended.Appended.{Appended}
 use Rattle.answers.specs.declared.SlpAppended.{SlpAppended}
 use Rattle.rows_run.specs.Run.{family_at}
 use Rattle.ser.specs.Write as write
@@ -43,7 +42,7 @@ pub write_outcome : {g : Game} {s : Stores} {out out' : List ℕ} {w : Answer �
     write.WriterOutcome g s out w out' → r ≡ written w → WriteOutcome g s out r out'
 write_outcome o n = record { answer_is = n ∙ ap written_struct o.answer_is; out_is = o.out_is }
 
-pub append_outcome : {f : Frames} {s : Lent} {a b place : ℕ} {out out' : List ℕ} {w : Appended} {r : SlpAppended} →
+pub append_outcome : {f : Frames} {s : Lent} {a b place : ℕ} {out out' : List ℕ} {w : Answer ℕ} {r : SlpAppended} →
     append.RunOutcome f s a b place out w out' → r ≡ appended_as w → AppendOutcome f s a b place out r out'
 append_outcome o n = record { answer_is = n ∙ ap appended_struct o.answer_is; out_is = o.out_is }
 

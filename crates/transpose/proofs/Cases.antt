@@ -13,7 +13,6 @@ use Rattle.layout.specs.Columns.{has_family, widths_of}
 use Rattle.layout.specs.declared.columns.Family.{Family}
 use Rattle.layout.specs.declared.columns.Family.TheVariants as family
 use Rattle.game.specs.Stores.{Lent, cells, offsets, lent}
-use Rattle.frames.specs.Judge.{refusals}
 use Rattle.players.specs.Presence.{marked}
 use Rattle.game.specs.declared.frames.PortColumn.{PortColumn}
 use Rattle.game.specs.declared.frames.Frames.{Frames}

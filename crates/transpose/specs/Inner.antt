@@ -1,6 +1,7 @@
 -- What the functions promise each other once the lent stores were judged.
 -- Assumes nothing.
-use Rattle.std.specs.Prelude.{ℕ, ◌+◌, ◌<◌, ◌≡◌, false, cond, List, [], ◌∷◌, ltb, length, get_or}
+use Rattle.std.specs.Prelude.{ℕ, ◌+◌, ◌<◌, ◌≡◌, Bool, true, false, cond, List, [], ◌∷◌, ltb, length, get_or, Some, None, is_some}
+use Rattle.std.specs.Option.{unwrap_or}
 use Rattle.format.specs.Refusal.{refuse, lowest}
 use Rattle.layout.specs.declared.columns.Family.{Family}
 use Rattle.layout.specs.declared.columns.Family.TheVariants as family
@@ -21,15 +22,20 @@ use Rattle.transpose.specs.declared.frame.Data.{Data}
 use Rattle.transpose.specs.declared.frame.PortData.{PortData}
 use Rattle.transpose.specs.declared.ports.Seat.{Seat}
 
+-- a row where it is shown, and none where it is not
+unfoldable pub if_shown : {A : Type 0} → Bool → A → A → A
+if_shown true row none = row
+if_shown false row none = none
+
 -- a store that was judged, and a place in it
 pub record Reachable (f : Frames) (family : Family) (cells : List ℕ) (block row : ℕ) : Type 0 where
   pub store : Stored f family cells
   pub block_in : block < slot_blocks f family
   pub row_in : row < rows_of f family
 
--- a record, or zeros where it is refused: cells that do not exceed their columns' widths
-pub record Fetched (f : Frames) (family : Family) (cells : List ℕ) (block row n : ℕ) (raw : List ℕ) : Type 0 where
-  pub is : raw ≡ unless_refused n (cells_at f family cells block row) no_cells
+-- a record, or zeros where it is not shown: cells that do not exceed their columns' widths
+pub record Fetched (f : Frames) (family : Family) (cells : List ℕ) (block row : ℕ) (shown : Bool) (raw : List ℕ) : Type 0 where
+  pub is : raw ≡ if_shown shown (cells_at f family cells block row) no_cells
   pub within : Within family raw
 
 -- presence bytes that were judged, and a slot
@@ -64,27 +70,24 @@ no_ports = no_port_data ∷ no_port_data ∷ no_port_data ∷ no_port_data ∷ [
 
 -- where no player is
 abbrev pub no_seat : Seat
-no_seat = record { port = 0; given = 0; no_leader = 1; no_follower = 1; slot = 0; second = 0 }
+no_seat = record { port = 0; leader = None; follower = None }
 
 -- where a port column's players are, whose leader has the slot
 abbrev pub seat_of : PortColumn → ℕ → Seat
 seat_of p slot = record {
   port = p.port;
-  given = cond (follows p) 1 0;
-  no_leader = 0;
-  no_follower = cond (follows p) 0 1;
-  slot = slot;
-  second = cond (follows p) (slot + 1) 0;
+  leader = Some slot;
+  follower = cond (follows p) (Some (slot + 1)) None;
 }
 
-unfoldable pub seat_at : Frames → ℕ → ℕ → Seat
-seat_at f k n = unless_refused n (cond (ltb k (length (ports_of f))) (seat_of (get_or (ports_of f) k no_port) (slots_before f k)) no_seat) no_seat
+unfoldable pub seat_at : Frames → ℕ → Bool → Seat
+seat_at f k shown = if_shown shown (cond (ltb k (length (ports_of f))) (seat_of (get_or (ports_of f) k no_port) (slots_before f k)) no_seat) no_seat
 
 -- the k-th port column's, and the slots of the players that are there are slots
-pub record Seated (f : Frames) (k n : ℕ) (s : Seat) : Type 0 where
-  pub is : s ≡ seat_at f k n
-  pub leader : s.no_leader ≡ 0 → (n ≡ 0) × (s.slot < length (slots_of f))
-  pub follower : s.no_follower ≡ 0 → (n ≡ 0) × (s.second < length (slots_of f))
+pub record Seated (f : Frames) (k : ℕ) (shown : Bool) (s : Seat) : Type 0 where
+  pub is : s ≡ seat_at f k shown
+  pub leader : is_some s.leader ≡ true → (shown ≡ true) × (unwrap_or s.leader 0 < length (slots_of f))
+  pub follower : is_some s.follower ≡ true → (shown ≡ true) × (unwrap_or s.follower 0 < length (slots_of f))
 
 -- stores and offsets that were judged, and a frame
 pub record Showable (f : Frames) (ids starts pres posts ends : List ℕ) (o : Offsets) (index : ℕ) : Type 0 where

@@ -1,15 +1,15 @@
 // The row of a whole frame.
-ghost use Rattle.std.specs.Prelude.{◌≡◌, ◌<◌, pos, length, get_or};
+ghost use Rattle.std.specs.Prelude.{◌≡◌, true, ◌<◌, pos, length, get_or};
 ghost use Rattle.std.specs.Int.{w32};
 ghost use Rattle.std.proofs.Common.{to_z};
 ghost use Rattle.frames.specs.Inner.{Placed};
 ghost use Rattle.game.specs.Held.{lent_in, offsets_in};
 ghost use Rattle.transpose.specs.Frame.{no_range, range_at, no_frame, frame_of};
-ghost use Rattle.transpose.specs.Inner.{Showable};
-ghost use Rattle.transpose.specs.Answers.{unless_refused, frame_row};
+ghost use Rattle.transpose.specs.Inner.{if_shown, Showable};
+ghost use Rattle.transpose.specs.Answers.{frame_row};
 
 use super::fetch::{frame_end_at, frame_start_at, version_shown};
-use super::judge::place_refused;
+use super::judge::place_judged;
 use super::ports::ports_at;
 use format::refusal::number_in;
 use format::signed::signed32;
@@ -93,65 +93,71 @@ fn range_at(f: Frames, family: Family, offsets: &[u32], index: usize) -> Range
     no_range()
 }
 
-fn range_shown(f: Frames, family: Family, offsets: &[u32], index: usize, n: u8) -> Range
-    requires { n ≡ 0 → Placed f family offsets.now × (index < f.counts.frames) }
-    ensures { result ≡ unless_refused n (range_at f family offsets.now index) no_range }
+fn range_shown(f: Frames, family: Family, offsets: &[u32], index: usize, shown: bool) -> Range
+    requires { shown ≡ true → Placed f family offsets.now × (index < f.counts.frames) }
+    ensures { result ≡ if_shown shown (range_at f family offsets.now index) no_range }
 {
-    if n != 0 {
-        return no_range();
+    if shown {
+        return range_at(f, family, offsets, index);
     }
-    range_at(f, family, offsets, index)
+    no_range()
 }
 
-fn id_shown(ids: &[u32], index: usize, n: u8) -> i32
-    requires { n ≡ 0 → index < length ids.now }
-    ensures { result ≡ unless_refused n (to_z w32 (get_or ids.now index 0)) (pos 0) }
+fn id_shown(ids: &[u32], index: usize, shown: bool) -> i32
+    requires { shown ≡ true → index < length ids.now }
+    ensures { result ≡ if_shown shown (to_z w32 (get_or ids.now index 0)) (pos 0) }
 {
-    if n != 0 {
-        return 0;
+    if shown {
+        return signed32(ids[index]);
     }
-    signed32(ids[index])
+    0
 }
 
-fn count_shown(count: usize, n: u8) -> usize
-    ensures { result ≡ unless_refused n count 0 }
+fn count_shown(count: usize, shown: bool) -> usize
+    ensures { result ≡ if_shown shown count 0 }
 {
-    if n != 0 {
-        return 0;
+    if shown {
+        return count;
     }
-    count
+    0
 }
 
-// The frame's row, or zeros where it is refused (n is not 0): one literal for both, since a second would take its room on the stack.
-fn frame_at(f: Frames, lent: &Lent<'_>, index: usize, n: u8) -> Frame
-    requires { n ≡ 0 → Showable f lent.now.cells.ids.now lent.now.cells.starts.now lent.now.cells.pres.now lent.now.cells.posts.now lent.now.cells.ends.now
+// The frame's row, or zeros where it is not shown: one literal for both, since a second would take its room on the stack.
+fn frame_at(f: Frames, lent: &Lent<'_>, index: usize, shown: bool) -> Frame
+    requires { shown ≡ true → Showable f lent.now.cells.ids.now lent.now.cells.starts.now lent.now.cells.pres.now lent.now.cells.posts.now lent.now.cells.ends.now
         (offsets_in lent.now.offsets) index }
-    ensures { result ≡ unless_refused n (frame_of f lent.now.cells.ids.now lent.now.cells.starts.now lent.now.cells.pres.now lent.now.cells.posts.now lent.now.cells.ends.now
+    ensures { result ≡ if_shown shown (frame_of f lent.now.cells.ids.now lent.now.cells.starts.now lent.now.cells.pres.now lent.now.cells.posts.now lent.now.cells.ends.now
         (offsets_in lent.now.offsets) lent.now.presence.now index) no_frame }
 {
-    let id = id_shown(lent.cells.ids, index, n);
+    let id = id_shown(lent.cells.ids, index, shown);
     let ports = ports_at(
         f,
         lent.cells.pres,
         lent.cells.posts,
         lent.presence,
         index,
-        n,
+        shown,
     );
-    let start = frame_start_at(f, lent.cells.starts, index, n);
-    let end = frame_end_at(f, lent.cells.ends, index, n);
-    let items = range_shown(f, Family::Item, lent.offsets.items, index, n);
-    let fod_platforms = range_shown(f, Family::FodPlatform, lent.offsets.fods, index, n);
-    let dreamland_whispys = range_shown(f, Family::DreamlandWhispy, lent.offsets.whispys, index, n);
+    let start = frame_start_at(f, lent.cells.starts, index, shown);
+    let end = frame_end_at(f, lent.cells.ends, index, shown);
+    let items = range_shown(f, Family::Item, lent.offsets.items, index, shown);
+    let fod_platforms = range_shown(f, Family::FodPlatform, lent.offsets.fods, index, shown);
+    let dreamland_whispys = range_shown(
+        f,
+        Family::DreamlandWhispy,
+        lent.offsets.whispys,
+        index,
+        shown,
+    );
     let stadium_transformations = range_shown(
         f,
         Family::StadiumTransformation,
         lent.offsets.stadiums,
         index,
-        n,
+        shown,
     );
-    let version = version_shown(f.version, n);
-    let port_count = count_shown(f.port_count, n);
+    let version = version_shown(f.version, shown);
+    let port_count = count_shown(f.port_count, shown);
     Frame {
         version,
         id,
@@ -169,8 +175,10 @@ fn frame_at(f: Frames, lent: &Lent<'_>, index: usize, n: u8) -> Frame
 pub fn frame_row(f: Frames, lent: &Lent<'_>, index: usize) -> FrameRow
     ensures { result ≡ frame_row f (lent_in lent.now) index }
 {
-    let judged = number_in(judge(f, lent, 0, 0));
-    let n = place_refused(judged, f, Family::FrameStart, 0, index);
-    let row = frame_at(f, lent, index, n);
-    FrameRow { refused: n, row }
+    let judged = place_judged(judge(f, lent, 0, 0), f, Family::FrameStart, 0, index);
+    let row = frame_at(f, lent, index, judged.is_ok());
+    FrameRow {
+        refused: number_in(judged),
+        row,
+    }
 }

@@ -1,9 +1,10 @@
 // Refusal 13: no such place.
 ghost use Rattle.std.specs.Prelude.{◌≡◌};
+ghost use Rattle.format.specs.Refused.{number_in};
 ghost use Rattle.transpose.specs.Judge.{outside};
 ghost use Rattle.transpose.specs.Inner.{place_refusal};
 
-use format::refusal::OUT_OF_RANGE;
+use format::refusal::Refusal;
 use game::frames::Frames;
 use layout::columns::Family;
 use players::slots::blocks;
@@ -16,14 +17,18 @@ fn is_outside(f: Frames, family: Family, block: usize, row: usize) -> bool
 }
 
 // What the judge of the stores answered, or 13: beside the judge and not around it, where it would take room on the stack.
-pub fn place_refused(n: u8, f: Frames, family: Family, block: usize, row: usize) -> u8
-    ensures { result ≡ place_refusal n f family block row }
+pub fn place_judged(
+    judged: Result<(), Refusal>,
+    f: Frames,
+    family: Family,
+    block: usize,
+    row: usize,
+) -> Result<(), Refusal>
+    ensures { number_in result ≡ place_refusal (number_in judged) f family block row }
 {
-    if n != 0 {
-        return n;
-    }
+    judged?;
     if is_outside(f, family, block, row) {
-        return OUT_OF_RANGE;
+        return Err(Refusal::OutOfRange);
     }
-    0
+    Ok(())
 }

@@ -1,23 +1,21 @@
-// The players of a frame, by their port columns: none where the frame is refused (n is not 0).
-ghost use Rattle.std.specs.Prelude.{◌≡◌};
-ghost use Rattle.transpose.specs.Answers.{unless_refused};
+// The players of a frame, by their port columns: none where the frame is not shown.
+ghost use Rattle.std.specs.Prelude.{◌≡◌, true, is_some};
+ghost use Rattle.std.specs.Option.{unwrap_or};
 ghost use Rattle.transpose.specs.Ports.{data_of, no_port_data, port_at, ports_at};
-ghost use Rattle.transpose.specs.Inner.{Playing, Played, Seated, nobody, no_seat, no_ports};
+ghost use Rattle.transpose.specs.Records.{mark_at};
+ghost use Rattle.transpose.specs.Inner.{if_shown, Attending, Playing, Played, Seated, nobody, no_seat, no_ports};
 
 use super::fetch::{mark_at, post_at, pre_at};
 use super::frame::{Data, PortData};
 use game::frames::Frames;
 use players::slots::slots_before;
 
-// Where a port column's players are: the leader's slot and the follower's, and for each 1 where there is none.
+// Where a port column's players are: the slots of the leader and of the follower, none where there is no such player.
 #[derive(Clone, Copy)]
 pub struct Seat {
     pub port: u8,
-    pub given: u8,
-    pub no_leader: u8,
-    pub no_follower: u8,
-    pub slot: usize,
-    pub second: usize,
+    pub leader: Option<usize>,
+    pub follower: Option<usize>,
 }
 
 fn no_seat() -> Seat
@@ -25,18 +23,15 @@ fn no_seat() -> Seat
 {
     Seat {
         port: 0,
-        given: 0,
-        no_leader: 1,
-        no_follower: 1,
-        slot: 0,
-        second: 0,
+        leader: None,
+        follower: None,
     }
 }
 
-fn seat_at(f: Frames, k: usize, n: u8) -> Seat
-    ensures { Seated f k n result }
+fn seat_at(f: Frames, k: usize, shown: bool) -> Seat
+    ensures { Seated f k shown result }
 {
-    if n != 0 {
+    if !shown {
         return no_seat();
     }
     if f.ports_in() <= k {
@@ -47,21 +42,23 @@ fn seat_at(f: Frames, k: usize, n: u8) -> Seat
     if p.has_follower() {
         return Seat {
             port: p.port,
-            given: 1,
-            no_leader: 0,
-            no_follower: 0,
-            slot,
-            second: slot + 1,
+            leader: Some(slot),
+            follower: Some(slot + 1),
         };
     }
     Seat {
         port: p.port,
-        given: 0,
-        no_leader: 0,
-        no_follower: 1,
-        slot,
-        second: 0,
+        leader: Some(slot),
+        follower: None,
     }
+}
+
+// A player's mark, and 0 where there is no such player.
+fn mark_of(f: Frames, presence: &[u8], slot: Option<usize>, index: usize) -> u8
+    requires { is_some slot ≡ true → Attending f (unwrap_or slot 0) }
+    ensures { result ≡ if_shown (is_some slot) (mark_at f presence.now (unwrap_or slot 0) index) 0 }
+{
+    mark_at(f, presence, slot.unwrap_or(0), index, slot.is_some())
 }
 
 // What a player does in a frame, whose mark is known.
@@ -69,16 +66,17 @@ fn data_at(
     f: Frames,
     pres: &[u32],
     posts: &[u32],
-    slot: usize,
+    slot: Option<usize>,
     index: usize,
     mark: u8,
-    n: u8,
 ) -> Data
-    requires { n ≡ 0 → Playing f pres.now posts.now slot index }
-    ensures { result ≡ unless_refused n (data_of f pres.now posts.now slot index mark) (nobody mark) }
+    requires { is_some slot ≡ true → Playing f pres.now posts.now (unwrap_or slot 0) index }
+    ensures { result ≡ if_shown (is_some slot) (data_of f pres.now posts.now (unwrap_or slot 0) index mark) (nobody mark) }
 {
-    let pre = pre_at(f, pres, slot, index, mark, n);
-    let post = post_at(f, posts, slot, index, mark, n);
+    let at = slot.unwrap_or(0);
+    let shown = slot.is_some();
+    let pre = pre_at(f, pres, at, index, mark, shown);
+    let post = post_at(f, posts, at, index, mark, shown);
     Data {
         present: mark,
         pre,
@@ -94,19 +92,19 @@ fn port_at(
     presence: &[u8],
     index: usize,
     k: usize,
-    n: u8,
+    shown: bool,
 ) -> PortData
-    requires { n ≡ 0 → Played f pres.now posts.now index }
-    ensures { result ≡ unless_refused n (port_at f pres.now posts.now presence.now index k) no_port_data }
+    requires { shown ≡ true → Played f pres.now posts.now index }
+    ensures { result ≡ if_shown shown (port_at f pres.now posts.now presence.now index k) no_port_data }
 {
-    let s = seat_at(f, k, n);
-    let first = mark_at(f, presence, s.slot, index, s.no_leader);
-    let second = mark_at(f, presence, s.second, index, s.no_follower);
-    let leader = data_at(f, pres, posts, s.slot, index, first, s.no_leader);
-    let follower = data_at(f, pres, posts, s.second, index, second, s.no_follower);
+    let s = seat_at(f, k, shown);
+    let first = mark_of(f, presence, s.leader, index);
+    let second = mark_of(f, presence, s.follower, index);
+    let leader = data_at(f, pres, posts, s.leader, index, first);
+    let follower = data_at(f, pres, posts, s.follower, index, second);
     PortData {
         port: s.port,
-        follower_given: s.given,
+        follower_given: u8::from(s.follower.is_some()),
         leader,
         follower,
     }
@@ -118,14 +116,14 @@ pub fn ports_at(
     posts: &[u32],
     presence: &[u8],
     index: usize,
-    n: u8,
+    shown: bool,
 ) -> [PortData; 4]
-    requires { n ≡ 0 → Played f pres.now posts.now index }
-    ensures { result ≡ unless_refused n (ports_at f pres.now posts.now presence.now index) no_ports }
+    requires { shown ≡ true → Played f pres.now posts.now index }
+    ensures { result ≡ if_shown shown (ports_at f pres.now posts.now presence.now index) no_ports }
 {
-    let a = port_at(f, pres, posts, presence, index, 0, n);
-    let b = port_at(f, pres, posts, presence, index, 1, n);
-    let c = port_at(f, pres, posts, presence, index, 2, n);
-    let d = port_at(f, pres, posts, presence, index, 3, n);
+    let a = port_at(f, pres, posts, presence, index, 0, shown);
+    let b = port_at(f, pres, posts, presence, index, 1, shown);
+    let c = port_at(f, pres, posts, presence, index, 2, shown);
+    let d = port_at(f, pres, posts, presence, index, 3, shown);
     [a, b, c, d]
 }

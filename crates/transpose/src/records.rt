@@ -7,7 +7,7 @@ use super::fetch::{
     dreamland_whispy_at, fod_platform_at, item_at, mark_at, post_at, pre_at,
     stadium_transformation_at,
 };
-use super::judge::place_refused;
+use super::judge::place_judged;
 use format::refusal::number_in;
 use frames::judge::judge;
 use game::frames::Frames;
@@ -60,51 +60,64 @@ pub struct StadiumTransformationRow {
     pub row: StadiumTransformation,
 }
 
+// A call for each C struct: what they share is in the judge and in the fetching functions, and what is left names the family, its store and its struct.
 pub fn pre_row(f: Frames, lent: &Lent<'_>, slot: usize, index: usize) -> PreRow
     ensures { result ≡ pre_row f (lent_in lent.now) slot index }
 {
-    let judged = number_in(judge(f, lent, 0, 0));
-    let n = place_refused(judged, f, Family::Pre, slot, index);
-    let mark = mark_at(f, lent.presence, slot, index, n);
-    let row = pre_at(f, lent.cells.pres, slot, index, mark, n);
-    PreRow { refused: n, row }
+    let judged = place_judged(judge(f, lent, 0, 0), f, Family::Pre, slot, index);
+    let shown = judged.is_ok();
+    let mark = mark_at(f, lent.presence, slot, index, shown);
+    let row = pre_at(f, lent.cells.pres, slot, index, mark, shown);
+    PreRow {
+        refused: number_in(judged),
+        row,
+    }
 }
 
 pub fn post_row(f: Frames, lent: &Lent<'_>, slot: usize, index: usize) -> PostRow
     ensures { result ≡ post_row f (lent_in lent.now) slot index }
 {
-    let judged = number_in(judge(f, lent, 0, 0));
-    let n = place_refused(judged, f, Family::Post, slot, index);
-    let mark = mark_at(f, lent.presence, slot, index, n);
-    let row = post_at(f, lent.cells.posts, slot, index, mark, n);
-    PostRow { refused: n, row }
+    let judged = place_judged(judge(f, lent, 0, 0), f, Family::Post, slot, index);
+    let shown = judged.is_ok();
+    let mark = mark_at(f, lent.presence, slot, index, shown);
+    let row = post_at(f, lent.cells.posts, slot, index, mark, shown);
+    PostRow {
+        refused: number_in(judged),
+        row,
+    }
 }
 
 pub fn item_row(f: Frames, lent: &Lent<'_>, index: usize) -> ItemRow
     ensures { result ≡ item_row f (lent_in lent.now) index }
 {
-    let judged = number_in(judge(f, lent, 0, 0));
-    let n = place_refused(judged, f, Family::Item, 0, index);
-    let row = item_at(f, lent.cells.items, index, n);
-    ItemRow { refused: n, row }
+    let judged = place_judged(judge(f, lent, 0, 0), f, Family::Item, 0, index);
+    let row = item_at(f, lent.cells.items, index, judged.is_ok());
+    ItemRow {
+        refused: number_in(judged),
+        row,
+    }
 }
 
 pub fn fod_platform_row(f: Frames, lent: &Lent<'_>, index: usize) -> FodPlatformRow
     ensures { result ≡ fod_platform_row f (lent_in lent.now) index }
 {
-    let judged = number_in(judge(f, lent, 0, 0));
-    let n = place_refused(judged, f, Family::FodPlatform, 0, index);
-    let row = fod_platform_at(f, lent.cells.fods, index, n);
-    FodPlatformRow { refused: n, row }
+    let judged = place_judged(judge(f, lent, 0, 0), f, Family::FodPlatform, 0, index);
+    let row = fod_platform_at(f, lent.cells.fods, index, judged.is_ok());
+    FodPlatformRow {
+        refused: number_in(judged),
+        row,
+    }
 }
 
 pub fn dreamland_whispy_row(f: Frames, lent: &Lent<'_>, index: usize) -> DreamlandWhispyRow
     ensures { result ≡ dreamland_whispy_row f (lent_in lent.now) index }
 {
-    let judged = number_in(judge(f, lent, 0, 0));
-    let n = place_refused(judged, f, Family::DreamlandWhispy, 0, index);
-    let row = dreamland_whispy_at(f, lent.cells.whispys, index, n);
-    DreamlandWhispyRow { refused: n, row }
+    let judged = place_judged(judge(f, lent, 0, 0), f, Family::DreamlandWhispy, 0, index);
+    let row = dreamland_whispy_at(f, lent.cells.whispys, index, judged.is_ok());
+    DreamlandWhispyRow {
+        refused: number_in(judged),
+        row,
+    }
 }
 
 pub fn stadium_transformation_row(
@@ -114,8 +127,16 @@ pub fn stadium_transformation_row(
 ) -> StadiumTransformationRow
     ensures { result ≡ stadium_transformation_row f (lent_in lent.now) index }
 {
-    let judged = number_in(judge(f, lent, 0, 0));
-    let n = place_refused(judged, f, Family::StadiumTransformation, 0, index);
-    let row = stadium_transformation_at(f, lent.cells.stadiums, index, n);
-    StadiumTransformationRow { refused: n, row }
+    let judged = place_judged(
+        judge(f, lent, 0, 0),
+        f,
+        Family::StadiumTransformation,
+        0,
+        index,
+    );
+    let row = stadium_transformation_at(f, lent.cells.stadiums, index, judged.is_ok());
+    StadiumTransformationRow {
+        refused: number_in(judged),
+        row,
+    }
 }

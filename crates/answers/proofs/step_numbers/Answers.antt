@@ -1,4 +1,3 @@
-use borrow.Author.Rules.{rules}
 use mathlib.Core.Path.{◌∙◌, sym, ap}
 use Rattle.answers.specs.Answers.{stepped}
 use Rattle.answers.proofs.step_numbers.Goals as goal

@@ -1,7 +1,6 @@
 use Rattle.answers.proofs.Laws.{walk_done}
 use mathlib.Core.Path.{sym, ap}
 use Rattle.answers.specs.Answers.{walked}
-use borrow.Author.Rules.{rules}
 use Rattle.answers.proofs.walk_numbers.Goals as goal
 
 -- src/answers.rt:85:1

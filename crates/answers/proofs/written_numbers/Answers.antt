@@ -1,7 +1,6 @@
 use mathlib.Core.Path.{sym, ap}
 use Rattle.answers.specs.Answers.{written}
 use Rattle.answers.proofs.Laws.{written_refused}
-use borrow.Author.Rules.{rules}
 use Rattle.answers.proofs.written_numbers.Goals as goal
 
 pub returns-in-Ok : goal.returns-in-Ok

@@ -1,7 +1,6 @@
 use native.Mathlib.Omega.{arith}
 use mathlib.Core.Path.{◌∙◌}
-use Prim.Native.Nat.{◌-◌}
-use Rattle.read_outline.proofs.Laws.{Passing, pass_first, pass_next, pass_last}
+use Rattle.read_outline.proofs.Laws.{pass_first, pass_next, pass_last}
 use Rattle.read_outline.proofs.blocks.Goals as goal
 
 pub loop-at-init : goal.loop-at-init

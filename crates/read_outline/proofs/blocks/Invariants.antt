@@ -1,8 +1,6 @@
 -- The invariant: the answer is that of what is left.
-use native.Mathlib.Omega.{arith}
-use mathlib.Core.Path.{◌∙◌}
 use Prim.Native.Nat.{◌-◌}
-use Rattle.read_outline.proofs.Laws.{Passing, pass_first, pass_next, pass_last}
+use Rattle.read_outline.proofs.Laws.{Passing}
 use Rattle.read_outline.proofs.blocks.Given as goal
 
 abbrev pub invariant-loop-at : goal.invariant-loop-at

@@ -1,7 +1,6 @@
 use native.Mathlib.Omega.{arith}
 use mathlib.Core.Path.{◌∙◌}
 use Rattle.read_outline.proofs.Laws.{codes_some, codes_other, codes_none}
-use borrow.Author.Rules.{rules}
 use Rattle.read_outline.proofs.codes.Goals as goal
 
 pub returns-then-file-first-eq-MESSAGE_SPLITTER : goal.returns-then-file-first-eq-MESSAGE_SPLITTER

@@ -1,8 +1,6 @@
 use native.Mathlib.Omega.{arith}
-use Prim.Native.Nat.{◌-◌, ◌≤◌}
-use Rattle.wire.specs.Wire.{ranged}
-use Rattle.wire.proofs.Writers.{Left, range_start, range_room, range_step, range_done}
-use Rattle.read_outline.proofs.Laws.{block_bytes, copy_room, room_part, wrote_part}
+use Rattle.wire.proofs.Writers.{range_start, range_room, range_step, range_done}
+use Rattle.read_outline.proofs.Laws.{copy_room, room_part, wrote_part}
 use Rattle.read_outline.proofs.copy_codes.Goals as goal
 
 pub loop-b-init : goal.loop-b-init

@@ -3,7 +3,6 @@ use mathlib.Core.Path.{◌∙◌, ap, sym}
 use native.Mathlib.Nat.{add-zero}
 use lib.ListN.{get_or}
 use Rattle.read_outline.proofs.Laws.{size_some, byte_in, end_as}
-use borrow.Author.Rules.{rules}
 use Rattle.read_outline.proofs.end_in.Goals as goal
 
 pub bounds-file-at : goal.bounds-file-at

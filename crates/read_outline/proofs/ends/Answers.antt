@@ -1,6 +1,5 @@
 use native.Mathlib.Omega.{arith}
 use Rattle.read_outline.proofs.Laws.{ends_none, ends_wrong, ends_one, ends_two, ends_unlike}
-use borrow.Author.Rules.{rules}
 use Rattle.read_outline.proofs.ends.Goals as goal
 
 pub returns-then-first-stop : goal.returns-then-first-stop

@@ -1,6 +1,5 @@
 use native.Mathlib.Omega.{arith}
 use Rattle.read_outline.proofs.Laws.{listed_early, listed_not, listed_as}
-use borrow.Author.Rules.{rules}
 use Rattle.read_outline.proofs.listed_right.Goals as goal
 
 pub overflow_cast-span : goal.overflow_cast-span

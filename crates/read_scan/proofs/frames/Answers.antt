@@ -1,11 +1,10 @@
-use borrow.Author.Rules.{rules}
 use mathlib.Core.Path.{refl, sym, ap, ◌∙◌}
 use Prim.Native.Nat.{◌+◌, ◌-◌, ◌^◌}
 use native.Mathlib.Omega.{arith}
 use lib.ListN.{length, get_or}
 use Rattle.read_order.specs.Inner.{order_of}
 use Rattle.read_scan.proofs.Counting.{under_to}
-use Rattle.read_scan.proofs.Jumps.{Turned, turned_first, turned_goes, turned_leaps}
+use Rattle.read_scan.proofs.Jumps.{turned_first, turned_goes, turned_leaps}
 use Rattle.read_scan.proofs.Turns.{turn_end, turn_other, turn_refused, tried_as}
 use Rattle.read_scan.specs.declared.event.Turn.TheVariants.{Goes, Refused}
 use Rattle.read_scan.proofs.frames.Goals as goal

@@ -1,4 +1,3 @@
-use borrow.Author.Rules.{rules}
 use Rattle.append.proofs.Lengths.{covers_fewer, between}
 use Rattle.append.proofs.length.present_between.Goals as goal
 

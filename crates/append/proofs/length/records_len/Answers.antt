@@ -1,6 +1,5 @@
 use Prim.Native.Nat.{◌+◌}
 use native.Mathlib.Omega.{arith}
-use borrow.Author.Rules.{rules}
 use Rattle.append.proofs.Lengths.{small, records_given, records_none}
 use Rattle.append.proofs.length.records_len.Goals as goal
 

@@ -1,5 +1,4 @@
 use native.Mathlib.Omega.{arith}
-use borrow.Author.Rules.{rules}
 use Rattle.players.specs.Inner.{Ranges}
 use Rattle.append.proofs.Lengths.{records_none, rows_rise, rows_few}
 use Rattle.append.proofs.length.rows_len.Goals as goal

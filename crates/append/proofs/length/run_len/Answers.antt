@@ -2,9 +2,7 @@
 use mathlib.Core.Path.{refl}
 use Prim.Native.Nat.{◌+◌, ◌*◌, ◌≤◌}
 use native.Mathlib.Omega.{arith}
-use borrow.Author.Rules.{rules}
 use Rattle.layout.specs.declared.columns.Family.TheVariants.{Item, FodPlatform, DreamlandWhispy, StadiumTransformation}
-use Rattle.game.specs.Stores.{offsets}
 use Rattle.game.specs.Held.{offsets_in}
 use Rattle.append.proofs.Lengths.{small, few_rows, ranges_in, run_adds}
 use Rattle.append.proofs.length.run_len.Goals as goal

@@ -1,9 +1,8 @@
 use mathlib.Core.Path.{sym}
 use native.Mathlib.Omega.{arith}
-use borrow.Author.Rules.{rules}
 use Rattle.wire.proofs.Writers.{room_as, wrote_as}
 use Rattle.frames.proofs.Accepted.{accepted}
-use Rattle.game.specs.Stores.{Lent, cells, offsets, lent}
+use Rattle.game.specs.Stores.{Lent}
 use Rattle.events.proofs.Laws.{run_is, supplied_of}
 use Rattle.append.specs.Run.{run_events}
 use Rattle.game.specs.Held.{lent_in}

@@ -1,5 +1,4 @@
 -- `live::begin::head_len` meets its contract: the parts, added up.
-use borrow.Author.Rules.{rules}
 use Rattle.live.proofs.Laws.{head_adds}
 use Rattle.live.proofs.begin.head_len.Goals as goal
 

@@ -1,5 +1,4 @@
 -- `live::finish::end_len` meets its contract: the parts, added up.
-use borrow.Author.Rules.{rules}
 use Rattle.live.proofs.Laws.{end_adds}
 use Rattle.live.proofs.finish.end_len.Goals as goal
 

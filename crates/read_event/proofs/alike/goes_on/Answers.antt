@@ -1,9 +1,4 @@
 use native.Mathlib.Omega.{arith}
-use borrow.Author.Rules.{rules}
-use Rattle.read_event.proofs.alike.goes_on.Reads as reads
-use Rattle.read_event.proofs.alike.goes_on.Lts as lts
-use Rattle.read_event.proofs.alike.is_repeated.Reads as is-repeated-reads
-use Rattle.read_event.proofs.spans.span_of.Reads as span-of-reads
 use Rattle.read_event.proofs.alike.goes_on.Goals as goal
 
 pub returns-then-is_repeated : goal.returns-then-is_repeated

@@ -1,13 +1,9 @@
 use native.Mathlib.Omega.{arith}
 use Rattle.format.proofs.Versions.{no_way}
-use borrow.Author.Rules.{rules}
-use Rattle.read_event.proofs.alike.is_ahead.Reads as reads
-use Rattle.read_event.proofs.alike.is_ahead.Lts as lts
-use Rattle.read_event.proofs.alike.is_repeated.Reads as is-repeated-reads
 use Rattle.read_event.proofs.alike.is_ahead.Goals as goal
 
-pub returns-else-start : goal.returns-else-start
-returns-else-start c = λ e. no_way e
+pub returns-then-not-start : goal.returns-then-not-start
+returns-then-not-start c = λ e. no_way e
 
 pub returns-then-step-z : goal.returns-then-step-z
 returns-then-step-z c = λ e. no_way e
@@ -27,7 +23,7 @@ returns-then-file-at-ne-FRAME_START c = λ e. no_way e
 pub returns : goal.returns
 returns c =
     λ e. record {
-      starts = c.if-start.true;
+      starts = c.if-not-start.false;
       forward = omega (arith, c.if-step-z.false);
       inside = omega (arith, c.if-stop-at.false, c.if-file-stop.false, c.requires);
       whole = omega (arith, c.if-file-stop.false);

@@ -1,11 +1,7 @@
-use mathlib.Core.Path.{◌≡◌, ap, ◌∙◌}
-use Prim.Native.Nat.{◌+◌, ◌-◌, ◌*◌, ◌≤◌}
+use mathlib.Core.Path.{ap, ◌∙◌}
 use native.Mathlib.Omega.{arith}
 use lib.ListN.{length}
 use Rattle.read_event.proofs.Likeness.{place_first, place_next, step_in_lem, steps_length, steps_first, steps_more, steps_all}
-use Rattle.read_event.specs.Alike.{steps_put}
-use Rattle.read_event.proofs.alike.put_steps.Reads as reads
-use Rattle.read_event.proofs.alike.put_steps.Lts as lts
 use Rattle.read_event.proofs.alike.put_steps.Goals as goal
 
 pub loop-t-init : goal.loop-t-init
@@ -22,12 +18,6 @@ bounds-places-i c = let l = c.loop-t in let n = ap length l.invariant.2 ∙ step
 
 pub overflow_add-p : goal.overflow_add-p
 overflow_add-p c = let l = c.loop-t in let a = c.args in let k = step_in_lem a.step l.t c.loop-t-test.true in omega (arith, l.invariant.1, k, c.requires.1, c.well_formed)
-
-pub overflow_add-t : goal.overflow_add-t
-overflow_add-t c = omega (arith, c.loop-t-test.true)
-
-pub loop-t-smaller : goal.loop-t-smaller
-loop-t-smaller c = omega (arith, c.loop-t-test.true)
 
 pub loop-t-preserved : goal.loop-t-preserved
 loop-t-preserved c = let l = c.loop-t in let a = c.args in (omega (arith, c.loop-t-test.true), place_next _ _ _ _ l.invariant.1, steps_more _ _ _ _ _ _ _ l.invariant.1 l.invariant.2)

@@ -2,13 +2,6 @@ use mathlib.Core.Path.{ap, ◌∙◌}
 use mathlib.Core.Bool.{Bool, ◌&&◌}
 use Rattle.read_event.specs.Inner.{open_after, marked, offset_marked}
 use Rattle.read_event.proofs.Leaves.{open_room}
-use borrow.Author.Rules.{rules}
-use Rattle.read_event.proofs.marks.begin.Reads as reads
-use Rattle.read_event.proofs.marks.begin.Lts as lts
-use Rattle.read_event.proofs.marks.is_first.Reads as is-first-reads
-use Rattle.read_event.proofs.marks.mark.Reads as mark-reads
-use Rattle.read_event.proofs.marks.mark_offsets.Reads as mark-offsets-reads
-use Rattle.read_event.proofs.marks.opened.Reads as opened-reads
 use Rattle.read_event.proofs.marks.begin.Goals as goal
 
 pub opened-requires : goal.opened-requires

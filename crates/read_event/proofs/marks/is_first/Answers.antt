@@ -1,8 +1,5 @@
 use native.Mathlib.Omega.{arith}
 use Rattle.read_event.proofs.Leaves.{first_late, first_start, first_other, first_ever, first_changed}
-use borrow.Author.Rules.{rules}
-use Rattle.read_event.proofs.marks.is_first.Reads as reads
-use Rattle.read_event.proofs.marks.is_first.Lts as lts
 use Rattle.read_event.proofs.marks.is_first.Goals as goal
 
 pub returns-then-frames-o : goal.returns-then-frames-o

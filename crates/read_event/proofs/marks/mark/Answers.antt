@@ -1,8 +1,5 @@
 use native.Mathlib.Omega.{arith}
 use Rattle.read_event.proofs.Leaves.{mark_on, mark_out, mark_off}
-use borrow.Author.Rules.{rules}
-use Rattle.read_event.proofs.marks.mark.Reads as reads
-use Rattle.read_event.proofs.marks.mark.Lts as lts
 use Rattle.read_event.proofs.marks.mark.Goals as goal
 
 pub returns-then-n-cells : goal.returns-then-n-cells

@@ -1,8 +1,5 @@
 use native.Mathlib.Omega.{arith}
 use Rattle.read_event.proofs.Leaves.{opened_on, opened_off}
-use borrow.Author.Rules.{rules}
-use Rattle.read_event.proofs.marks.opened.Reads as reads
-use Rattle.read_event.proofs.marks.opened.Lts as lts
 use Rattle.read_event.proofs.marks.opened.Goals as goal
 
 pub overflow_add-result : goal.overflow_add-result

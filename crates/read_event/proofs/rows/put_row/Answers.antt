@@ -1,10 +1,6 @@
 use mathlib.Core.Path.{◌∙◌}
 use native.Mathlib.Omega.{arith}
 use Rattle.read_event.proofs.Leaves.{in_only, row_put_lem, row_late, row_off, next_put, next_late, next_off}
-use borrow.Author.Rules.{rules}
-use Rattle.read_event.proofs.rows.put_row.Reads as reads
-use Rattle.read_event.proofs.rows.put_row.Lts as lts
-use Rattle.record.proofs.get.Reads as get-reads
 use Rattle.read_event.proofs.rows.put_row.Goals as goal
 
 pub get-requires : goal.get-requires

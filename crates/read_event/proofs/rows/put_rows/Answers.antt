@@ -1,12 +1,7 @@
-use mathlib.Core.Path.{◌≡◌, sym, ◌∙◌}
+use mathlib.Core.Path.{sym, ◌∙◌}
 use native.Mathlib.Omega.{arith}
 use lib.Seq.{length-take-le}
 use Rattle.read_event.proofs.Dispatch.{quiet_row, next_starts, next_ends, next_items, next_stage}
-use borrow.Author.Rules.{rules}
-use Rattle.read_event.proofs.rows.put_rows.Reads as reads
-use Rattle.read_event.proofs.rows.put_rows.Lts as lts
-use Rattle.read_event.proofs.rows.put_row.Reads as put-row-reads
-use Rattle.read_event.proofs.rows.put_stage.Reads as put-stage-reads
 use Rattle.read_event.proofs.rows.put_rows.Goals as goal
 
 pub slice_bounds-put_row-end : goal.slice_bounds-put_row-end

@@ -1,9 +1,5 @@
 use native.Mathlib.Omega.{arith}
 use Rattle.read_event.specs.Inner.{stage_after}
-use borrow.Author.Rules.{rules}
-use Rattle.read_event.proofs.rows.put_stage.Reads as reads
-use Rattle.read_event.proofs.rows.put_stage.Lts as lts
-use Rattle.read_event.proofs.rows.put_row.Reads as put-row-reads
 use Rattle.read_event.proofs.rows.put_stage.Goals as goal
 
 pub slice_bounds-put_row-count : goal.slice_bounds-put_row-count

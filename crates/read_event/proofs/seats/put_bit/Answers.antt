@@ -1,11 +1,5 @@
-use mathlib.Core.Path.{◌∙◌}
 use native.Mathlib.Omega.{arith}
 use Rattle.read_event.proofs.Leaves.{block_in, bit_put_lem, bit_none, bit_late, bit_early, bit_off}
-use borrow.Author.Rules.{rules}
-use Rattle.read_event.proofs.seats.put_bit.Reads as reads
-use Rattle.read_event.proofs.seats.put_bit.Lts as lts
-use Rattle.read_event.proofs.seats.block_at.Reads as block-at-reads
-use Rattle.read_event.proofs.seats.with_bit.Reads as with-bit-reads
 use Rattle.read_event.proofs.seats.put_bit.Goals as goal
 
 pub block_at-block-requires : goal.block_at-block-requires

@@ -1,11 +1,6 @@
 use mathlib.Core.Path.{◌∙◌}
 use native.Mathlib.Omega.{arith}
 use Rattle.read_event.proofs.Leaves.{in_block, block_in, player_put_lem, player_none, player_late, player_early, player_off}
-use borrow.Author.Rules.{rules}
-use Rattle.read_event.proofs.seats.put_player.Reads as reads
-use Rattle.read_event.proofs.seats.put_player.Lts as lts
-use Rattle.read_event.proofs.seats.block_at.Reads as block-at-reads
-use Rattle.record.proofs.get.Reads as get-reads
 use Rattle.read_event.proofs.seats.put_player.Goals as goal
 
 pub block_at-block-requires : goal.block_at-block-requires

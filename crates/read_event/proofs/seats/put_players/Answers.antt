@@ -1,10 +1,5 @@
 use native.Mathlib.Omega.{arith}
 use Rattle.read_event.proofs.Dispatch.{quiet_player, quiet_bit}
-use borrow.Author.Rules.{rules}
-use Rattle.read_event.proofs.seats.put_players.Reads as reads
-use Rattle.read_event.proofs.seats.put_players.Lts as lts
-use Rattle.read_event.proofs.seats.put_bit.Reads as put-bit-reads
-use Rattle.read_event.proofs.seats.put_player.Reads as put-player-reads
 use Rattle.read_event.proofs.seats.put_players.Goals as goal
 
 pub put_bit-requires : goal.put_bit-requires

@@ -3,7 +3,6 @@ use Prim.Native.Nat.{ℕ, ◌≤◌}
 use native.Mathlib.Omega.{arith}
 use borrow.Author.Tests.{eq-eqb, ne_eqb}
 use Rattle.read_event.specs.Inner.{span_by}
-use borrow.Author.Rules.{rules}
 use Rattle.read_event.proofs.spans.span_of.Goals as goal
 
 -- it is no player's

@@ -4,13 +4,6 @@ use native.Mathlib.Omega.{arith}
 use lib.Dec.{ltb}
 use lib.Seq.{length-take-le}
 use Rattle.read_leap.proofs.Leaps.{seen_is}
-use Rattle.read_leap.proofs.leap.leap.Reads as reads
-use Rattle.read_leap.proofs.leap.leap.Lts as lts
-use Rattle.read_leap.proofs.leap.put_ends.Reads as put-ends-reads
-use Rattle.read_leap.proofs.leap.put_ids.Reads as put-ids-reads
-use Rattle.read_leap.proofs.leap.put_offsets.Reads as put-offsets-reads
-use Rattle.read_leap.proofs.leap.put_stepped.Reads as put-stepped-reads
-use Rattle.wire.proofs.get_be.Reads as get-be-reads
 use Rattle.read_leap.proofs.leap.leap.Goals as goal
 
 pub put_ids-requires : goal.put_ids-requires

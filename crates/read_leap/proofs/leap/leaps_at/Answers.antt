@@ -1,8 +1,4 @@
 use native.Mathlib.Omega.{arith}
-use borrow.Author.Rules.{rules}
-use Rattle.read_leap.proofs.leap.leaps_at.Reads as reads
-use Rattle.read_leap.proofs.leap.leaps_at.Lts as lts
-use Rattle.read_leap.proofs.leap.ends_at.Reads as ends-at-reads
 use Rattle.read_leap.proofs.leap.leaps_at.Goals as goal
 
 pub returns-then-file-at-ne-FRAME_START : goal.returns-then-file-at-ne-FRAME_START

@@ -2,10 +2,6 @@ use mathlib.Core.Path.{◌∙◌}
 use Prim.Native.Nat.{◌+◌}
 use native.Mathlib.Omega.{arith}
 use Rattle.read_leap.proofs.Leaps.{when_on, when_off}
-use borrow.Author.Rules.{rules}
-use Rattle.read_leap.proofs.leap.put_ends.Reads as reads
-use Rattle.read_leap.proofs.leap.put_ends.Lts as lts
-use Rattle.read_leap.proofs.leap.put_stepped.Reads as put-stepped-reads
 use Rattle.read_leap.proofs.leap.put_ends.Goals as goal
 
 pub overflow_add-next : goal.overflow_add-next

@@ -1,9 +1,6 @@
-use mathlib.Core.Path.{◌≡◌, refl, ◌∙◌}
-use Prim.Native.Nat.{◌+◌, ◌-◌, ◌*◌, ◌≤◌}
+use mathlib.Core.Path.{refl, ◌∙◌}
 use native.Mathlib.Omega.{arith}
-use lib.ListN.{length}
 use Rattle.read_event.proofs.Likeness.{place_first, place_next, step_in_lem}
-use Rattle.read_leap.specs.Inner.{ids_put}
 use Rattle.read_leap.proofs.Leaps.{ids_first, ids_more, ids_all}
 use Rattle.read_leap.proofs.leap.put_ids.Goals as goal
 
@@ -29,12 +26,6 @@ overflow_add-p-in-loop-t c =
     let a = c.args in
     let h = c.requires in
     let k = step_in_lem a.step l.t c.loop-t-test.true in omega (arith, l.invariant.1, k, h.0, c.well_formed)
-
-pub overflow_add-t : goal.overflow_add-t
-overflow_add-t c = omega (arith, c.loop-t-test.true)
-
-pub loop-t-smaller : goal.loop-t-smaller
-loop-t-smaller c = omega (arith, c.loop-t-test.true)
 
 pub loop-t-preserved : goal.loop-t-preserved
 loop-t-preserved c =

@@ -1,10 +1,5 @@
-use mathlib.Core.Path.{◌≡◌, refl, ◌∙◌}
-use mathlib.Core.Bool.{true}
-use Prim.Native.Nat.{◌-◌, ◌≤◌}
+use mathlib.Core.Path.{refl, ◌∙◌}
 use native.Mathlib.Omega.{arith}
-use lib.ListN.{length}
-use borrow.Author.Rules.{rules}
-use Rattle.read_leap.specs.Inner.{offsets_put}
 use Rattle.read_leap.proofs.Leaps.{offsets_first, offsets_more, offsets_all, offsets_off}
 use Rattle.read_leap.proofs.leap.put_offsets.Goals as goal
 
@@ -13,12 +8,6 @@ loop-t-init c = (omega arith, offsets_first _ _ _ _, refl)
 
 pub overflow_add-n : goal.overflow_add-n
 overflow_add-n c = omega (arith, c.requires, c.loop-t.invariant.0)
-
-pub overflow_add-t : goal.overflow_add-t
-overflow_add-t c = omega (arith, c.loop-t.invariant.0)
-
-pub loop-t-smaller : goal.loop-t-smaller
-loop-t-smaller c = omega (arith, c.loop-t-test.true)
 
 pub loop-t-preserved : goal.loop-t-preserved
 loop-t-preserved c = let l = c.loop-t.invariant in (omega (arith, c.loop-t-test.true), offsets_more _ _ _ _ _ _ _ refl l.1 c.mark.ensures, c.mark.auto.cells ∙ l.2)

@@ -2,11 +2,6 @@ use Prim.Native.Nat.{◌+◌}
 use native.Mathlib.Omega.{arith}
 use Rattle.read_event.proofs.Leaves.{in_only}
 use Rattle.read_leap.proofs.Leaps.{eight_long, table_long, table_reach, table_rows}
-use borrow.Author.Rules.{rules}
-use Rattle.read_leap.proofs.leap.put_stepped.Reads as reads
-use Rattle.read_leap.proofs.leap.put_stepped.Lts as lts
-use Rattle.read_event.proofs.alike.put_steps.Reads as put-steps-reads
-use Rattle.gather.proofs.get_records.Reads as get-records-reads
 use Rattle.read_leap.proofs.leap.put_stepped.Goals as goal
 
 pub get_records-requires : goal.get_records-requires

@@ -1,6 +1,5 @@
 use native.Mathlib.Omega.{arith}
 use Rattle.read_order.specs.Inner.{slot_at}
-use borrow.Author.Rules.{rules}
 use Rattle.read_order.proofs.due.slot_at.Goals as goal
 
 pub returns : goal.returns

@@ -1,4 +1,3 @@
-use borrow.Author.Rules.{rules}
 use Rattle.layout.proofs.Laws.{arm}
 use Rattle.grammar.specs.WellFormed.{may_precede}
 use Rattle.read_order.specs.Inner.{order_of}

@@ -1,5 +1,4 @@
 use Rattle.read_order.proofs.Steps.{end_is, end_not}
-use borrow.Author.Rules.{rules}
 use Rattle.read_order.proofs.order.end_may.Goals as goal
 
 pub returns-then-is_inside : goal.returns-then-is_inside

@@ -2,7 +2,6 @@ use Rattle.layout.proofs.Laws.{arm}
 use Rattle.grammar.specs.Machine.{orderly}
 use Rattle.read_order.specs.Inner.{order_of, state_in, said_of}
 use Rattle.read_order.proofs.Steps.{start_arm, fod_arm, whispy_arm, stadium_arm, item_arm, post_arm, end_arm}
-use borrow.Author.Rules.{rules}
 use Rattle.read_order.proofs.order.may.Goals as goal
 
 pub returns-in-FrameStart : goal.returns-in-FrameStart

@@ -1,5 +1,4 @@
 use Rattle.read_order.proofs.Steps.{stands_inside, stands_not, stands_closed}
-use borrow.Author.Rules.{rules}
 use Rattle.read_order.proofs.order.may_stand.Goals as goal
 
 pub returns-then-is_inside : goal.returns-then-is_inside

@@ -2,7 +2,6 @@ use native.Mathlib.Omega.{arith}
 use lib.ListN.{length}
 use Rattle.read_order.proofs.Laws.{room_go}
 use Rattle.read_order.proofs.Steps.{next_is, next_not, third}
-use borrow.Author.Rules.{rules}
 use Rattle.read_order.proofs.order.post_may.Goals as goal
 
 pub slot_at-requires : goal.slot_at-requires

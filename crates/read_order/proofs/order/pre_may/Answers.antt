@@ -1,5 +1,4 @@
 use Rattle.read_order.proofs.Steps.{pre_not, pre_nobody, pre_may}
-use borrow.Author.Rules.{rules}
 use Rattle.read_order.proofs.order.pre_may.Goals as goal
 
 pub returns-then-is_player : goal.returns-then-is_player

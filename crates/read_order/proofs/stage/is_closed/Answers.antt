@@ -1,6 +1,5 @@
 use native.Mathlib.Omega.{arith}
 use Rattle.read_order.proofs.Steps.{closed_due, closed_end, closed_lacks}
-use borrow.Author.Rules.{rules}
 use Rattle.read_order.proofs.stage.is_closed.Goals as goal
 
 pub returns-then-m-ne0 : goal.returns-then-m-ne0

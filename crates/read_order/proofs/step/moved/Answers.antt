@@ -1,7 +1,6 @@
 use native.Mathlib.Omega.{arith}
 use Rattle.layout.specs.declared.columns.Family.TheVariants.{Pre, Post, FrameStart, Item, FrameEnd, FodPlatform, DreamlandWhispy, StadiumTransformation}
 use Rattle.read_order.proofs.Steps.{ready_as, after_as, row_after, keeps_start, keeps_fod, keeps_whispy, keeps_stadium, keeps_item, keeps_end}
-use borrow.Author.Rules.{rules}
 use Rattle.read_order.proofs.step.moved.Goals as goal
 
 pub with_pre-requires : goal.with_pre-requires

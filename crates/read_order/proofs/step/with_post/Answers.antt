@@ -1,5 +1,4 @@
 use Rattle.read_order.proofs.Steps.{post_less}
-use borrow.Author.Rules.{rules}
 use Rattle.read_order.proofs.step.with_post.Goals as goal
 
 pub returns : goal.returns

@@ -1,6 +1,5 @@
 use native.Mathlib.Omega.{arith}
 use Rattle.read_order.proofs.Steps.{pre_first, pre_more}
-use borrow.Author.Rules.{rules}
 use Rattle.read_order.proofs.step.with_pre.Goals as goal
 
 pub returns-then-m-eq0 : goal.returns-then-m-eq0

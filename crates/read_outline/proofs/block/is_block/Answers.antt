@@ -1,7 +1,6 @@
 use native.Mathlib.Omega.{arith}
 use Rattle.format.proofs.Versions.{no_way}
 use Rattle.read_outline.proofs.Laws.{block_short, block_other, block_unlisted, block_as}
-use borrow.Author.Rules.{rules}
 use Rattle.read_outline.proofs.block.is_block.Goals as goal
 
 pub returns-then-stop-at-lt517 : goal.returns-then-stop-at-lt517

@@ -1,7 +1,6 @@
 use native.Mathlib.Omega.{arith}
 use Rattle.format.proofs.Versions.{no_way}
 use Rattle.read_outline.proofs.Laws.{full_none, full_flag, full_as}
-use borrow.Author.Rules.{rules}
 use Rattle.read_outline.proofs.block.is_full.Goals as goal
 
 pub bounds-file-at : goal.bounds-file-at

@@ -1,7 +1,6 @@
 use native.Mathlib.Omega.{arith}
 use Rattle.format.proofs.Versions.{no_way}
 use Rattle.read_outline.proofs.Laws.{last_none, last_flag_lem, last_early, last_empty, last_as, last_few}
-use borrow.Author.Rules.{rules}
 use Rattle.read_outline.proofs.block.is_last.Goals as goal
 
 pub bounds-file-at : goal.bounds-file-at

@@ -1,6 +1,5 @@
 use native.Mathlib.Omega.{arith}
 use Rattle.read_outline.proofs.Laws.{last_is, last_not}
-use borrow.Author.Rules.{rules}
 use Rattle.read_outline.proofs.block.last_block.Goals as goal
 
 pub get_be-used-requires : goal.get_be-used-requires

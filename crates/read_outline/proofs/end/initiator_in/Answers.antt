@@ -1,6 +1,5 @@
 use native.Mathlib.Omega.{arith}
 use Rattle.read_outline.proofs.Laws.{size_two, named_none, named_as}
-use borrow.Author.Rules.{rules}
 use Rattle.read_outline.proofs.end.initiator_in.Goals as goal
 
 pub bounds-file-at : goal.bounds-file-at

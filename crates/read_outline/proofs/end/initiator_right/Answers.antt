@@ -1,7 +1,6 @@
 use native.Mathlib.Omega.{arith}
 use mathlib.Core.Path.{refl}
 use Rattle.read_outline.proofs.Laws.{size_two, initiator_early, initiator_low, initiator_as}
-use borrow.Author.Rules.{rules}
 use Rattle.read_outline.proofs.end.initiator_right.Goals as goal
 
 pub bounds-file-at : goal.bounds-file-at

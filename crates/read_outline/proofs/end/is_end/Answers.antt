@@ -1,4 +1,3 @@
-use borrow.Author.Rules.{rules}
 use native.Mathlib.Omega.{arith}
 use Rattle.format.proofs.Versions.{no_way}
 use Rattle.read_outline.proofs.Laws.{here_short, here_other, here_as, end_size_as}

@@ -1,5 +1,4 @@
 use Rattle.read_outline.proofs.Laws.{second_not, second_more, second_as}
-use borrow.Author.Rules.{rules}
 use Rattle.read_outline.proofs.end.is_second.Goals as goal
 
 pub returns-then-at-n : goal.returns-then-at-n

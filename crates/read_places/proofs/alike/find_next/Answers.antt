@@ -1,11 +1,5 @@
 use native.Mathlib.Omega.{arith}
 use Rattle.read_places.proofs.Steps.{followed_long, followed_batch}
-use borrow.Author.Rules.{rules}
-use Rattle.read_places.proofs.alike.find_next.Reads as reads
-use Rattle.read_places.proofs.alike.find_next.Lts as lts
-use Rattle.read_places.proofs.alike.follow.Reads as follow-reads
-use Rattle.read_places.proofs.scan.find_frames.Reads as find-frames-reads
-use Rattle.wire.proofs.get_be.Reads as get-be-reads
 use Rattle.read_places.proofs.alike.find_next.Goals as goal
 
 pub overflow_mul-last : goal.overflow_mul-last

@@ -1,10 +1,5 @@
 use mathlib.Core.Path.{sym, ◌∙◌}
 use Rattle.read_places.proofs.Scans.{when_on, when_off}
-use borrow.Author.Rules.{rules}
-use Rattle.read_places.proofs.alike.note_steps.Reads as reads
-use Rattle.read_places.proofs.alike.note_steps.Lts as lts
-use Rattle.read_event.proofs.alike.put_steps.Reads as put-steps-reads
-use Rattle.read_places.proofs.scan.is_players.Reads as is-players-reads
 use Rattle.read_places.proofs.alike.note_steps.Goals as goal
 
 pub returns-then-is_players : goal.returns-then-is_players

@@ -1,6 +1,4 @@
 use Rattle.read_places.proofs.Scans.{is_pre, is_other}
-use Rattle.read_places.proofs.scan.is_players.Reads as reads
-use Rattle.read_places.proofs.scan.is_players.Lts as lts
 use Rattle.read_places.proofs.scan.is_players.Goals as goal
 
 pub returns-then-code-eq-FRAME_PRE : goal.returns-then-code-eq-FRAME_PRE

@@ -1,9 +1,5 @@
-use mathlib.Core.Path.{◌≡◌, sym, ap, ◌∙◌}
+use mathlib.Core.Path.{sym, ◌∙◌}
 use Rattle.read_places.proofs.Scans.{when_on, when_off}
-use borrow.Author.Rules.{rules}
-use Rattle.read_places.proofs.scan.note.Reads as reads
-use Rattle.read_places.proofs.scan.note.Lts as lts
-use Rattle.read_places.proofs.scan.is_players.Reads as is-players-reads
 use Rattle.read_places.proofs.scan.note.Goals as goal
 
 pub returns-then-is_players : goal.returns-then-is_players

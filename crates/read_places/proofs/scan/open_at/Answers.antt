@@ -1,12 +1,5 @@
-use native.Mathlib.Omega.{arith}
 use Rattle.read_event.proofs.Leaves.{open_room}
 use Rattle.read_places.proofs.Scans.{open_is, open_few}
-use borrow.Author.Rules.{rules}
-use Rattle.read_places.proofs.scan.open_at.Reads as reads
-use Rattle.read_places.proofs.scan.open_at.Lts as lts
-use Rattle.read_event.proofs.marks.is_first.Reads as is-first-reads
-use Rattle.read_event.proofs.marks.opened.Reads as opened-reads
-use Rattle.wire.proofs.get_be.Reads as get-be-reads
 use Rattle.read_places.proofs.scan.open_at.Goals as goal
 
 pub opened-requires : goal.opened-requires

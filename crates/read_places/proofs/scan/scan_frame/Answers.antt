@@ -1,17 +1,6 @@
-use mathlib.Core.Path.{◌≡◌}
-use mathlib.Core.Bool.{true}
-use Prim.Native.Nat.{◌-◌, ◌≤◌}
-use lib.ListN.{length}
 use native.Mathlib.Omega.{arith}
 use Rattle.read_event.proofs.Parts.{some_whole}
-use Rattle.read_places.specs.Inner.{open_of, Scanned, Stays}
 use Rattle.read_places.proofs.Scans.{scan_first, scan_more, scan_whole, scan_from, scan_back}
-use Rattle.read_places.proofs.scan.scan_frame.Reads as reads
-use Rattle.read_places.proofs.scan.scan_frame.Lts as lts
-use Rattle.read_places.proofs.scan.note.Reads as note-reads
-use Rattle.read_places.proofs.scan.open_at.Reads as open-at-reads
-use Rattle.read_places.proofs.scan.stays.Reads as stays-reads
-use Rattle.read_event.proofs.spans.span_of.Reads as span-of-reads
 use Rattle.read_places.proofs.scan.scan_frame.Goals as goal
 
 pub open_at-begun-requires : goal.open_at-begun-requires

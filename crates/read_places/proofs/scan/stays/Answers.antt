@@ -2,10 +2,6 @@ use native.Mathlib.Omega.{arith}
 use Rattle.format.proofs.Versions.{no_way}
 use Rattle.read_event.proofs.Quiet.{stay_other, stay_same}
 use Rattle.read_places.proofs.Scans.{stay_start}
-use borrow.Author.Rules.{rules}
-use Rattle.read_places.proofs.scan.stays.Reads as reads
-use Rattle.read_places.proofs.scan.stays.Lts as lts
-use Rattle.wire.proofs.get_be.Reads as get-be-reads
 use Rattle.read_places.proofs.scan.stays.Goals as goal
 
 pub returns-then-stop-e : goal.returns-then-stop-e

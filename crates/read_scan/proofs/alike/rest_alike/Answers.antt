@@ -1,7 +1,6 @@
-use Prim.Native.Nat.{◌-◌}
 use native.Mathlib.Omega.{arith}
 use Rattle.format.proofs.Versions.{no_way}
-use Rattle.read_scan.proofs.Compare.{Down, down_start, down_step, down_done}
+use Rattle.read_scan.proofs.Compare.{down_start, down_step, down_done}
 use Rattle.read_scan.proofs.alike.rest_alike.Goals as goal
 
 pub loop-e-init : goal.loop-e-init
@@ -33,10 +32,10 @@ loop-e-smaller c = omega (arith, c.if-at-e.false, c.if-n-eq0.false, c.loop-e-tes
 
 pub loop-e-preserved : goal.loop-e-preserved
 loop-e-preserved c =
-    down_step c.loop-e.invariant c.loop-e-test.true c.span_of-n.result c.span_of-n.ensures.0 (c.event_alike.ensures c.if-event_alike.true)
+    down_step c.loop-e.invariant c.loop-e-test.true c.span_of-n.result c.span_of-n.ensures.0 (c.event_alike.ensures c.if-not-event_alike.false)
 
-pub returns-else-event_alike : goal.returns-else-event_alike
-returns-else-event_alike c = no_way
+pub returns-then-not-event_alike : goal.returns-then-not-event_alike
+returns-then-not-event_alike c = no_way
 
 pub returns : goal.returns
 returns c = λ e. down_done c.loop-e.invariant c.loop-e-test.false

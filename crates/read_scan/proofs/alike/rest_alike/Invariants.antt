@@ -1,7 +1,5 @@
 use Prim.Native.Nat.{◌-◌}
-use native.Mathlib.Omega.{arith}
-use Rattle.format.proofs.Versions.{no_way}
-use Rattle.read_scan.proofs.Compare.{Down, down_start, down_step, down_done}
+use Rattle.read_scan.proofs.Compare.{Down}
 use Rattle.read_scan.proofs.alike.rest_alike.Given as goal
 
 abbrev pub invariant-loop-e : goal.invariant-loop-e

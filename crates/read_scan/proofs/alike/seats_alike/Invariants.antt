@@ -1,12 +1,6 @@
-use Prim.Native.Nat.{◌-◌}
-use native.Mathlib.Omega.{arith}
-use Rattle.format.proofs.Versions.{no_way}
 use Rattle.read_scan.specs.Alike.{Seats}
-use Rattle.read_scan.proofs.Compare.{Along, along_start, along_step, along_in, seats_start, seats_step, seats_done}
+use Rattle.read_scan.proofs.Compare.{Along}
 use Rattle.read_scan.proofs.alike.seats_alike.Given as goal
 
-abbrev pub invariant-loop-t : goal.invariant-loop-t
-invariant-loop-t l = Along l.e l.step l.p l.t × Seats l.file l.e l.step l.t
-
-abbrev pub decreases-loop-t : goal.decreases-loop-t
-decreases-loop-t l = 8 - l.t
+abbrev pub invariant-loop : goal.invariant-loop
+invariant-loop l = Along l.e l.step l.p l.counter × Seats l.file l.e l.step l.counter

@@ -4,7 +4,6 @@ use native.Mathlib.Omega.{arith}
 use Rattle.read_order.specs.Inner.{order_of}
 use Rattle.read_scan.proofs.Same.{big}
 use Rattle.read_scan.proofs.Turns.{ready_if, not_fits, not_whole, not_orderly, size_of, gone}
-use borrow.Author.Rules.{rules}
 use Rattle.read_scan.proofs.event.try_event.Goals as goal
 
 pub word_at-w-requires : goal.word_at-w-requires

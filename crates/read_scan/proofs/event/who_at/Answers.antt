@@ -2,7 +2,6 @@ use mathlib.Core.Path.{◌≡◌, sym}
 use Prim.Native.Nat.{◌+◌}
 use native.Mathlib.Omega.{arith}
 use lib.ListN.{get_or, get_or-eq_default}
-use borrow.Author.Rules.{rules}
 use Rattle.read_scan.proofs.event.who_at.Goals as goal
 
 pub overflow_cast-result : goal.overflow_cast-result

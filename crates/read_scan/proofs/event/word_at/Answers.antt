@@ -1,4 +1,3 @@
-use borrow.Author.Rules.{rules}
 use Rattle.read_scan.proofs.event.word_at.Goals as goal
 
 pub returns : goal.returns

@@ -1,6 +1,5 @@
 use native.Mathlib.Omega.{arith}
 use Rattle.read_scan.proofs.Spans.{fits_as, eight}
-use borrow.Author.Rules.{rules}
 use Rattle.read_scan.proofs.sizes.fits.Goals as goal
 
 pub bounds-sizes-index : goal.bounds-sizes-index

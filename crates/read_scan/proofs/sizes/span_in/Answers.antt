@@ -1,5 +1,4 @@
 use Rattle.read_scan.proofs.Spans.{span_has, span_lacks}
-use borrow.Author.Rules.{rules}
 use Rattle.read_scan.proofs.sizes.span_in.Goals as goal
 
 pub returns-then-exists : goal.returns-then-exists

@@ -8,11 +8,10 @@ use lib.Dec.{lit<}
 use lib.Pow.{shl_exact}
 use Rattle.read_scan.specs.Counts.{tally}
 use Rattle.read_scan.proofs.Counting.{player_few}
-use borrow.Author.Rules.{rules}
 use Rattle.read_scan.proofs.tally.with_player.Goals as goal
 
-pub overflow_shl-u : goal.overflow_shl-u
-overflow_shl-u c = let (a, b) = player_few c.args.w c.requires in omega (arith, c.slot.ensures)
+pub overflow_shl-result : goal.overflow_shl-result
+overflow_shl-result c = let (a, b) = player_few c.args.w c.requires in omega (arith, c.slot.ensures)
 
 shifted : (k : ℕ) → k < 64 → 1 * 2 ^ k % 2 ^ 64 ≡ 2 ^ k
 shifted k h = shl_exact 1 k 64 (lit< tt) (omega arith) ∙ one-mul (2 ^ k)

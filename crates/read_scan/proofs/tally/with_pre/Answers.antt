@@ -1,4 +1,3 @@
-use borrow.Author.Rules.{rules}
 use Rattle.read_scan.proofs.Counting.{pre_of_frame, pre_begins}
 use Rattle.read_scan.proofs.tally.with_pre.Goals as goal
 

@@ -1,10 +1,6 @@
 -- The invariant: the events so far bring nothing.
 use Prim.Native.Nat.{◌-◌}
-use native.Mathlib.Omega.{arith}
-use Rattle.read_event.specs.Parts.{WholeBy}
-use Rattle.read_event.proofs.Parts.{some_whole}
 use Rattle.read_turn.specs.Inner.{Nothing}
-use Rattle.read_turn.proofs.Turns.{nothing_first, nothing_more}
 use Rattle.read_turn.proofs.quiet.after_quiet.Given as goal
 
 abbrev pub invariant-loop-e : goal.invariant-loop-e

@@ -2,10 +2,6 @@ use native.Mathlib.Omega.{arith}
 use Rattle.format.proofs.Versions.{no_way}
 use Rattle.read_event.proofs.Quiet.{stay_same}
 use Rattle.read_turn.proofs.Turns.{stay_start, stay_post}
-use borrow.Author.Rules.{rules}
-use Rattle.read_turn.proofs.quiet.is_quiet.Reads as reads
-use Rattle.read_turn.proofs.quiet.is_quiet.Lts as lts
-use Rattle.wire.proofs.get_be.Reads as get-be-reads
 use Rattle.read_turn.proofs.quiet.is_quiet.Goals as goal
 
 pub returns-then-code-eq-FRAME_POST : goal.returns-then-code-eq-FRAME_POST

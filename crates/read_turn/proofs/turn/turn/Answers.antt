@@ -1,12 +1,6 @@
 use native.Mathlib.Omega.{arith}
 use Rattle.read_event.proofs.Parts.{long_start, long_end, long_item, long_fod, long_whispy, long_stadium}
 use Rattle.read_turn.proofs.Turns.{turn_made}
-use borrow.Author.Rules.{rules}
-use Rattle.read_turn.proofs.turn.turn.Reads as reads
-use Rattle.read_turn.proofs.turn.turn.Lts as lts
-use Rattle.read_event.proofs.marks.begin.Reads as begin-reads
-use Rattle.read_event.proofs.rows.put_rows.Reads as put-rows-reads
-use Rattle.wire.proofs.get_be.Reads as get-be-reads
 use Rattle.read_turn.proofs.turn.turn.Goals as goal
 
 pub overflow_add-at-2 : goal.overflow_add-at-2

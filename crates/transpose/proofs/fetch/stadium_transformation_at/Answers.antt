@@ -1,5 +1,4 @@
 use mathlib.Core.Path.{◌∙◌}
-use borrow.Author.Rules.{rules}
 use Rattle.rows.specs.Rows.{stadium_transformation_of}
 use Rattle.transpose.proofs.Shown.{row_shown}
 use Rattle.transpose.proofs.fetch.stadium_transformation_at.Goals as goal

@@ -1,7 +1,6 @@
 use mathlib.Core.Path.{sym, ◌∙◌}
 use Prim.Native.Nat.{◌+◌}
 use native.Mathlib.Omega.{arith}
-use borrow.Author.Rules.{rules}
 use Rattle.players.specs.Inner.{Ranges}
 use Rattle.game.specs.Frames.{rows_of}
 use Rattle.transpose.specs.Frame.{range_at}

@@ -1,4 +1,3 @@
-use borrow.Author.Rules.{rules}
 use Rattle.transpose.specs.Judge.{outside}
 use Rattle.transpose.proofs.judge.is_outside.Goals as goal
 

@@ -7,15 +7,15 @@ use Rattle.transpose.proofs.Slotting.{seat_refused, seat_none, seat_both, seat_o
 use Rattle.transpose.proofs.ports.seat_at.Goals as goal
 use Rattle.transpose.proofs.ports.seat_at.Goals.{Else-ports_in-k, Then-has_follower}
 
-pub returns-then-n-ne0 : goal.returns-then-n-ne0
-returns-then-n-ne0 c = seat_refused _ _ _ c.if-n-ne0.true c.no_seat.ensures
+pub returns-then-not-shown : goal.returns-then-not-shown
+returns-then-not-shown c = seat_refused _ _ _ c.if-not-shown.true c.no_seat.ensures
 
 -- the port column is there
 inside : (c : Else-ports_in-k) → let a = c.args in a.k < length (ports_of a.f)
 inside c = omega (arith, c.if-ports_in-k.false, c.ports_in.ensures.0)
 
 pub returns-then-ports_in-k : goal.returns-then-ports_in-k
-returns-then-ports_in-k c = seat_none _ _ _ c.if-n-ne0.false (omega (arith, c.if-ports_in-k.true, c.ports_in.ensures.0)) c.no_seat-then-ports_in-k.ensures
+returns-then-ports_in-k c = seat_none _ _ _ c.if-not-shown.false (omega (arith, c.if-ports_in-k.true, c.ports_in.ensures.0)) c.no_seat-then-ports_in-k.ensures
 
 pub port-p-requires : goal.port-p-requires
 port-p-requires c = inside c
@@ -35,11 +35,11 @@ second c =
 
 pub returns-then-has_follower : goal.returns-then-has_follower
 returns-then-has_follower c =
-    seat_both _ _ _ c.if-n-ne0.false (inside (goal.at.returns-then-has_follower c).Else-ports_in-k) c.port-p.ensures c.slots_before-slot.ensures c.has_follower.ensures c.if-has_follower.true
+    seat_both _ _ _ c.if-not-shown.false (inside (goal.at.returns-then-has_follower c).Else-ports_in-k) c.port-p.ensures c.slots_before-slot.ensures c.has_follower.ensures c.if-has_follower.true
 
 pub returns : goal.returns
 returns c =
-    seat_one _ _ _ c.if-n-ne0.false (inside (goal.at.returns c).Else-ports_in-k) c.port-p.ensures c.slots_before-slot.ensures c.has_follower.ensures c.if-has_follower.false
+    seat_one _ _ _ c.if-not-shown.false (inside (goal.at.returns c).Else-ports_in-k) c.port-p.ensures c.slots_before-slot.ensures c.has_follower.ensures c.if-has_follower.false
 
 pub overflow_add-result : goal.overflow_add-result
 overflow_add-result c = omega (arith, second c, slots_few c.args.f)

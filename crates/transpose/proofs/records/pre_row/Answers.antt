@@ -1,17 +1,17 @@
-use mathlib.Core.Path.{refl, sym, ◌∙◌}
+use mathlib.Core.Path.{refl, ◌∙◌}
 use Rattle.rows.specs.Rows.{no_cells, no_version, pre_of}
 use Rattle.transpose.specs.Answers.{pre_answer}
 use Rattle.transpose.proofs.Judged.{row_judged, reachable, attending}
-use Rattle.transpose.proofs.Shown.{answered, mark_shown}
+use Rattle.transpose.proofs.Shown.{none_refused, answered, mark_shown}
 use Rattle.transpose.proofs.records.pre_row.Goals as goal
 
 pub mark_at-mark-requires : goal.mark_at-mark-requires
-mark_at-mark-requires c = λ e. attending _ _ _ _ _ (sym (c.place_refused-n.ensures ∙ row_judged _ _ _ _ _ _ (c.number_in-judged.ensures ∙ c.judge.ensures)) ∙ e) refl
+mark_at-mark-requires c = λ e. attending _ _ _ _ _ (none_refused _ (c.place_judged-judged.ensures ∙ row_judged _ _ _ _ _ _ c.judge.ensures) c.is_ok-shown.ensures.value e) refl
 
 pub pre_at-row-requires : goal.pre_at-row-requires
-pre_at-row-requires c = λ e. reachable _ _ _ _ _ (sym (c.place_refused-n.ensures ∙ row_judged _ _ _ _ _ _ (c.number_in-judged.ensures ∙ c.judge.ensures)) ∙ e)
+pre_at-row-requires c = λ e. reachable _ _ _ _ _ (none_refused _ (c.place_judged-judged.ensures ∙ row_judged _ _ _ _ _ _ c.judge.ensures) c.is_ok-shown.ensures.value e)
 
 pub returns : goal.returns
 returns c =
-    answered pre_answer _ _ (c.place_refused-n.ensures ∙ row_judged _ _ _ _ _ _ (c.number_in-judged.ensures ∙ c.judge.ensures))
+    answered pre_answer _ (c.place_judged-judged.ensures ∙ row_judged _ _ _ _ _ _ c.judge.ensures) c.is_ok-shown.ensures.value _ _ c.number_in.ensures
     (c.pre_at-row.ensures ∙ mark_shown (pre_of _ _) (pre_of no_cells no_version) _ _ c.mark_at-mark.ensures)
