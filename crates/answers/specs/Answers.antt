@@ -1,6 +1,6 @@
 -- The answers of the calls as structs of numbers.
 -- Assumes nothing.
-use Rattle.std.specs.Prelude.{ℕ, cond, Result}
+use Rattle.std.specs.Prelude.{ℕ, cond, Result, Ok, Err}
 use Rattle.format.specs.Mark.{yes}
 use Rattle.rollback.specs.declared.frame.Rollbacks.{Rollbacks}
 use Rattle.rollback.specs.declared.frame.Rollbacks.TheVariants.{ExceptFirst, ExceptLast}
@@ -8,11 +8,12 @@ use Rattle.head.specs.Numbers.{StepNumbers, step_numbers}
 use Rattle.de.specs.Numbers.{WalkNumbers, walk_numbers}
 use Rattle.head.specs.declared.Step.{Step}
 use Rattle.de.specs.declared.Walked.{Walked}
+use Rattle.format.specs.Refused.{number_of}
 use Rattle.format.specs.declared.refusal.Refusal.{Refusal}
-use Rattle.ser.specs.Write.{WrittenNumbers, written_numbers}
-use Rattle.append.specs.Run.{AppendedNumbers, appended_numbers}
+use Rattle.ser.specs.Write.{WrittenNumbers}
+use Rattle.append.specs.Run.{AppendedNumbers}
 use Rattle.live.specs.declared.closed.Ends.{Ends}
-use Rattle.live.specs.End.{ClosedNumbers, closed_numbers}
+use Rattle.live.specs.End.{ClosedNumbers}
 use Rattle.answers.specs.declared.SlpAppended.{SlpAppended}
 use Rattle.answers.specs.declared.SlpClosed.{SlpClosed}
 use Rattle.answers.specs.declared.SlpStep.{SlpStep}
@@ -31,17 +32,25 @@ walk_struct n = record { refused = n.number; whole = n.whole; offset = n.offset;
 abbrev pub walked : Walked → SlpWalked
 walked w = walk_struct (walk_numbers w)
 
+-- an answer with its refusal's number
+abbrev pub numbered : {A : Type 0} → Result A Refusal → Result A ℕ
+numbered (Ok x) = Ok x
+numbered (Err r) = Err (number_of r)
+
 abbrev pub written_struct : WrittenNumbers → SlpWritten
 written_struct n = record { refused = n.number; len = n.len }
 
-abbrev pub written : Result ℕ Refusal → SlpWritten
-written w = written_struct (written_numbers w)
+-- of an answer with any number
+abbrev pub written : Result ℕ ℕ → SlpWritten
+written (Ok n) = written_struct (record { kind = 0; number = 0; len = n })
+written (Err k) = written_struct (record { kind = 1; number = k; len = 0 })
 
 abbrev pub appended_struct : AppendedNumbers → SlpAppended
 appended_struct n = record { refused = n.number; end = n.end }
 
-abbrev pub appended_as : Result ℕ Refusal → SlpAppended
-appended_as w = appended_struct (appended_numbers w)
+abbrev pub appended_as : Result ℕ ℕ → SlpAppended
+appended_as (Ok n) = appended_struct (record { kind = 0; number = 0; end = n })
+appended_as (Err k) = appended_struct (record { kind = 1; number = k; end = 0 })
 
 -- 0 keeps an id's first frame, every other number its last
 abbrev pub keep_of : ℕ → Rollbacks
@@ -50,5 +59,11 @@ keep_of keep = cond (yes keep) ExceptLast ExceptFirst
 abbrev pub closed_struct : ClosedNumbers → SlpClosed
 closed_struct n = record { refused = n.number; events = n.events; end = n.end }
 
-abbrev pub closed_as : Result Ends Refusal → SlpClosed
-closed_as c = closed_struct (closed_numbers c)
+abbrev pub closed_as : Result Ends ℕ → SlpClosed
+closed_as (Ok p) = closed_struct (record { kind = 0; number = 0; events = p.events; end = p.end })
+closed_as (Err k) = closed_struct (record { kind = 1; number = k; events = 0; end = 0 })
+
+-- 0 where the mask is written, else the refusal's number
+abbrev pub masked : Result ℕ ℕ → ℕ
+masked (Ok n) = 0
+masked (Err k) = k

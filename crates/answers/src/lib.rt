@@ -2,7 +2,7 @@
 #![tactic(auto)]
 
 ghost use Rattle.std.specs.Prelude.{◌≡◌, cond};
-ghost use Rattle.answers.specs.Answers.{stepped, walked, written, appended_as, closed_as};
+ghost use Rattle.answers.specs.Answers.{stepped, walked, numbered, written, appended_as, closed_as};
 
 use de::Walked;
 use format::refusal::Refusal;
@@ -133,31 +133,35 @@ pub fn walk_numbers(w: Walked) -> SlpWalked
     }
 }
 
-pub fn written_numbers(w: Result<usize, Refusal>) -> SlpWritten
+// An answer with its refusal's number, as the functions below take it: they take any number.
+pub fn by_number<T>(answer: Result<T, Refusal>) -> Result<T, u8>
+    ensures { result ≡ numbered answer }
+{
+    match answer {
+        Ok(x) => Ok(x),
+        Err(why) => Err(why.number()),
+    }
+}
+
+pub fn written_numbers(w: Result<usize, u8>) -> SlpWritten
     ensures { result ≡ written w }
 {
     match w {
         Ok(len) => SlpWritten { refused: 0, len },
-        Err(why) => SlpWritten {
-            refused: why.number(),
-            len: 0,
-        },
+        Err(refused) => SlpWritten { refused, len: 0 },
     }
 }
 
-pub fn appended_numbers(w: Result<usize, Refusal>) -> SlpAppended
+pub fn appended_numbers(w: Result<usize, u8>) -> SlpAppended
     ensures { result ≡ appended_as w }
 {
     match w {
         Ok(end) => SlpAppended { refused: 0, end },
-        Err(why) => SlpAppended {
-            refused: why.number(),
-            end: 0,
-        },
+        Err(refused) => SlpAppended { refused, end: 0 },
     }
 }
 
-pub fn closed_numbers(c: Result<Ends, Refusal>) -> SlpClosed
+pub fn closed_numbers(c: Result<Ends, u8>) -> SlpClosed
     ensures { result ≡ closed_as c }
 {
     match c {
@@ -166,8 +170,8 @@ pub fn closed_numbers(c: Result<Ends, Refusal>) -> SlpClosed
             events,
             end,
         },
-        Err(why) => SlpClosed {
-            refused: why.number(),
+        Err(refused) => SlpClosed {
+            refused,
             events: 0,
             end: 0,
         },

@@ -1,9 +1,7 @@
 // The words of a mask's call as numbers.
 ghost use Rattle.std.specs.Prelude.{◌≡◌};
-ghost use Rattle.rollback.specs.Mask.{mask_numbers};
-ghost use Rattle.answers.specs.Answers.{keep_of};
+ghost use Rattle.answers.specs.Answers.{keep_of, masked};
 
-use format::refusal::Refusal;
 use rollback::frame::Rollbacks;
 
 // 0 keeps an id's first frame, every other number its last.
@@ -18,11 +16,11 @@ pub fn rollbacks_of(keep: u8) -> Rollbacks
 }
 
 // 0 where the mask is written, else the refusal's number.
-pub fn mask_number(m: Result<usize, Refusal>) -> u8
-    ensures { result ≡ (mask_numbers m).number }
+pub fn mask_number(m: Result<usize, u8>) -> u8
+    ensures { result ≡ masked m }
 {
     match m {
         Ok(_) => 0,
-        Err(r) => r.number(),
+        Err(refused) => refused,
     }
 }

@@ -22,29 +22,30 @@ use Rattle.ser.specs.Write as write
 use Rattle.game.specs.declared.Game.{Game}
 use Rattle.format.specs.Refused.{Answer}
 use Rattle.answers.specs.declared.SlpWritten.{SlpWritten}
-use Rattle.answers.specs.Answers.{written_struct, written, appended_struct, appended_as, keep_of}
+use Rattle.answers.specs.Answers.{numbered, written_struct, written, appended_struct, appended_as, keep_of, masked}
+use Rattle.answers.proofs.Laws.{written_number, appended_number, masked_number}
 use Rattle.names.specs.Names.{no_column, described}
 use Rattle.names.specs.declared.columns.Described.{Described}
 use Rattle.slp.specs.Columns.{store_columns, store_column}
 use Rattle.slp.specs.Outcomes.{MaskOutcome, WriteOutcome, AppendOutcome}
 
-pub mask_outcome : {ids mask scratch ma sa : List ℕ} {keep : Rollbacks} {k number : ℕ} {answer : Result ℕ Refusal} →
-    keep ≡ keep_of k → rollback.RollbackOutcome ids keep mask scratch answer ma sa → number ≡ (rollback.mask_numbers answer).number →
+pub mask_outcome : {ids mask scratch ma sa : List ℕ} {keep : Rollbacks} {k number : ℕ} {answer : Result ℕ Refusal} {m : Result ℕ ℕ} →
+    keep ≡ keep_of k → rollback.RollbackOutcome ids keep mask scratch answer ma sa → m ≡ numbered answer → number ≡ masked m →
     MaskOutcome ids k mask scratch number ma sa
-mask_outcome {ids} {mask} {scratch} {keep = keep} {answer = answer} kept o n =
+mask_outcome {ids} {mask} {scratch} {keep = keep} {answer = answer} kept o m n =
     record {
-      number_is = n ∙ ap (λ (m : rollback.MaskNumbers). m.number) o.answer_is;
+      number_is = n ∙ ap masked m ∙ masked_number answer ∙ ap (λ (a : rollback.MaskNumbers). a.number) o.answer_is;
       mask_is = o.mask_is ∙ ap (λ (a : rollback.MaskNumbers). rollback.mask_after a keep ids mask) o.answer_is ∙ ap (λ q. rollback.mask_after (rollback.answer_of ids (length mask) (length scratch)) q ids mask) kept;
       scratch_is = o.scratch_is ∙ ap (λ (a : rollback.MaskNumbers). rollback.scratch_after a ids scratch) o.answer_is;
     }
 
-pub write_outcome : {g : Game} {s : Stores} {out out' : List ℕ} {w : Answer ℕ} {r : SlpWritten} →
-    write.WriterOutcome g s out w out' → r ≡ written w → WriteOutcome g s out r out'
-write_outcome o n = record { answer_is = n ∙ ap written_struct o.answer_is; out_is = o.out_is }
+pub write_outcome : {g : Game} {s : Stores} {out out' : List ℕ} {w : Answer ℕ} {m : Result ℕ ℕ} {r : SlpWritten} →
+    write.WriterOutcome g s out w out' → m ≡ numbered w → r ≡ written m → WriteOutcome g s out r out'
+write_outcome {w = w} o m n = record { answer_is = n ∙ ap written m ∙ written_number w ∙ ap written_struct o.answer_is; out_is = o.out_is }
 
-pub append_outcome : {f : Frames} {s : Lent} {a b place : ℕ} {out out' : List ℕ} {w : Answer ℕ} {r : SlpAppended} →
-    append.RunOutcome f s a b place out w out' → r ≡ appended_as w → AppendOutcome f s a b place out r out'
-append_outcome o n = record { answer_is = n ∙ ap appended_struct o.answer_is; out_is = o.out_is }
+pub append_outcome : {f : Frames} {s : Lent} {a b place : ℕ} {out out' : List ℕ} {w : Answer ℕ} {m : Result ℕ ℕ} {r : SlpAppended} →
+    append.RunOutcome f s a b place out w out' → m ≡ numbered w → r ≡ appended_as m → AppendOutcome f s a b place out r out'
+append_outcome {w = w} o m n = record { answer_is = n ∙ ap appended_as m ∙ appended_number w ∙ ap appended_struct o.answer_is; out_is = o.out_is }
 
 -- ---- families by the number of their store
 

@@ -5,7 +5,7 @@ ghost use Rattle.live.specs.End.{closing};
 ghost use Rattle.live.specs.Length.{field_refusal, field_bytes};
 ghost use Rattle.slp.specs.Live.{HeadCall, EndCall};
 
-use answers::{SlpAppended, SlpClosed, appended_numbers, closed_numbers};
+use answers::{SlpAppended, SlpClosed, appended_numbers, by_number, closed_numbers};
 use format::version::Version;
 use game::end::End;
 use game::start::Start;
@@ -26,7 +26,15 @@ pub extern "C" fn slp_write_head(
     ensures { HeadCall (opening version begin codes_given actual_size block.now codes.now)
         out.old result out.new }
 {
-    appended_numbers(write_head(out, version, begin, codes_given, actual_size, block, codes))
+    appended_numbers(by_number(write_head(
+        out,
+        version,
+        begin,
+        codes_given,
+        actual_size,
+        block,
+        codes,
+    )))
 }
 
 #[unsafe(no_mangle)]
@@ -42,7 +50,7 @@ pub extern "C" fn slp_write_end(
     ensures { EndCall (closing version end double_end metadata_given metadata.now)
         place out.old result out.new }
 {
-    closed_numbers(write_end(
+    closed_numbers(by_number(write_end(
         out,
         place,
         version,
@@ -50,7 +58,7 @@ pub extern "C" fn slp_write_end(
         double_end,
         metadata_given,
         metadata,
-    ))
+    )))
 }
 
 #[unsafe(no_mangle)]

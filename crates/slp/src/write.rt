@@ -3,7 +3,7 @@ ghost use Rattle.game.specs.Stores.{cells, offsets, lent, stores};
 ghost use Rattle.slp.specs.Outcomes.{WriteOutcome};
 
 use crate::lent::stores_of;
-use answers::{SlpWritten, written_numbers};
+use answers::{SlpWritten, by_number, written_numbers};
 use game::Game;
 
 #[unsafe(no_mangle)]
@@ -53,5 +53,5 @@ pub extern "C" fn slp_write(
         codes,
         metadata,
     );
-    written_numbers(ser::write::write(out, g, &stores))
+    written_numbers(by_number(ser::write::write(out, g, &stores)))
 }

@@ -3,7 +3,7 @@ ghost use Rattle.game.specs.Stores.{cells, offsets, lent, stores};
 ghost use Rattle.slp.specs.Finals.{FinalWriteOutcome};
 
 use crate::lent::stores_of;
-use answers::{SlpWritten, written_numbers};
+use answers::{SlpWritten, by_number, written_numbers};
 use game::Game;
 
 #[unsafe(no_mangle)]
@@ -55,5 +55,5 @@ pub extern "C" fn slp_write_final(
         codes,
         metadata,
     );
-    written_numbers(final_file::write::write_final(out, scratch, g, &stores))
+    written_numbers(by_number(final_file::write::write_final(out, scratch, g, &stores)))
 }

@@ -4,7 +4,7 @@ ghost use Rattle.game.specs.Stores.{cells, offsets, lent};
 ghost use Rattle.slp.specs.Outcomes.{AppendOutcome};
 
 use crate::lent::lent_of;
-use answers::{SlpAppended, appended_numbers};
+use answers::{SlpAppended, appended_numbers, by_number};
 use append::run::{write_frame, write_frames};
 use game::frames::Frames;
 
@@ -52,7 +52,7 @@ pub extern "C" fn slp_write_frames(
         stadium_offsets,
         presence,
     );
-    appended_numbers(write_frames(out, place, f, &lent, a, b))
+    appended_numbers(by_number(write_frames(out, place, f, &lent, a, b)))
 }
 
 #[unsafe(no_mangle)]
@@ -98,5 +98,5 @@ pub extern "C" fn slp_write_frame(
         stadium_offsets,
         presence,
     );
-    appended_numbers(write_frame(out, place, f, &lent, i))
+    appended_numbers(by_number(write_frame(out, place, f, &lent, i)))
 }

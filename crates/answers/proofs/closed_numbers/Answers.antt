@@ -1,10 +1,9 @@
 use mathlib.Core.Path.{sym, ap}
 use Rattle.answers.specs.Answers.{closed_as}
-use Rattle.answers.proofs.Laws.{close_refused}
 use Rattle.answers.proofs.closed_numbers.Goals as goal
 
 pub returns-in-Ok : goal.returns-in-Ok
 returns-in-Ok c = sym (ap closed_as c.in-Ok.is)
 
 pub returns-in-Err : goal.returns-in-Err
-returns-in-Err c = close_refused c.number.ensures c.in-Err.is
+returns-in-Err c = sym (ap closed_as c.in-Err.is)

@@ -9,4 +9,4 @@ use Rattle.slp.proofs.masks.slp_rollbacks.Goals as goal
 
 -- src/masks.rt:29:1
 pub returns : goal.returns
-returns c = mask_outcome c.rollbacks_of.ensures c.rollbacks.ensures c.mask_number.ensures
+returns c = mask_outcome c.rollbacks_of.ensures c.rollbacks.ensures c.by_number.ensures c.mask_number.ensures

@@ -2,4 +2,4 @@ use Rattle.slp.proofs.Laws.{append_outcome}
 use Rattle.slp.proofs.write_frames.slp_write_frame.Goals as goal
 
 pub returns : goal.returns
-returns c = append_outcome (rw c.lent_of-lent.ensures at c.write_frame.ensures) c.appended_numbers.ensures
+returns c = append_outcome (rw c.lent_of-lent.ensures at c.write_frame.ensures) c.by_number.ensures c.appended_numbers.ensures
