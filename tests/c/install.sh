@@ -26,6 +26,8 @@ nm -D --defined-only "$to/opt/slp/lib/libslp.so" | awk '{ print $3 }' | sed -n '
 	grep -q "^[a-z].*[ *]$call(" include/slp.h || echo "not in the header: $call"
 done
 readelf -d "$to/opt/slp/lib/libslp.so" | sed -n 's/.*NEEDED.*\[\(.*\)\]/it needs \1/p' | grep -v 'libc\.so' || true
+# what the archive needs from outside: bare C gives no more
+nm -u "$lib" | sed -n 's/^ *U /the archive needs /p'
 "$to/opt/slp/bin/slp" --version
 make -s uninstall DESTDIR="$to" PREFIX=/opt/slp
 (cd "$to" && find . -type f | sort)

@@ -20,14 +20,15 @@ pub fn put_u8(out: &mut [u8], at: usize, b: u8) -> usize
     at + 1
 }
 
-// All of src.
+// All of src. By a loop: the library's copy_from_slice needs memmove from outside, which the C library's archive does without.
 pub fn put_bytes(out: &mut [u8], at: usize, src: &[u8]) -> usize
     requires { Room out.old at src.now }
     ensures { Wrote out.old out.new at result src.now }
 {
-    let end = at + src.len();
-    out[at..end].copy_from_slice(src);
-    end
+    for k in 0..src.len() {
+        out[at + k] = src[k];
+    }
+    at + src.len()
 }
 
 // The width low bytes of v, the highest first.
