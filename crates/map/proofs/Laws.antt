@@ -66,6 +66,10 @@ module _ {a b : Option Refusal} where
       pub lower_high : n ≤ m → number_of x ≡ worse (number_if a) (number_if b)
       lower_high h = rw (e, f) (worse_high (number_of x) (number_of y) (some_number x) (some_number y) (omega (arith, h, em, en)))
 
+pub lower_none : (a : Option Refusal) {b : Option Refusal} → b ≡ None → number_if a ≡ worse (number_if a) (number_if b)
+lower_none None {b} f = sym (ap number_if f) ∙ worse_first 0 (number_if b) refl
+lower_none (Some x) f = lower_second refl f
+
 pub worse_none : (a b : ℕ) → worse a b ≡ 0 → (a ≡ 0) × (b ≡ 0)
 worse_none a b e = elim (ℕ_discrete a 0) [
   | yes x ↦ (x, worse_first a b x ∙ e)

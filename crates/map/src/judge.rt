@@ -1,5 +1,6 @@
 // Whether rows stand for a map, and how long its body is.
 ghost use Rattle.std.specs.Prelude.{◌≡◌, ℕ, ◌+◌, ◌*◌, ◌<◌, ◌≤◌, ◌^◌, List, length};
+ghost use Rattle.format.specs.Refused.{number_of};
 ghost use Rattle.map.specs.Map.{value_bytes, body_of};
 ghost use Rattle.map.specs.Rows.{worse, text_wrong, value_wrong, row_wrong, plain_of, map_at};
 ghost use Rattle.map.specs.Inner.{cap_of, number_if};
@@ -24,7 +25,18 @@ fn capped(n: usize) -> usize
     n
 }
 
-// The one of two refusals with the lower number.
+// The one of two refusals with the lower number. Out of line: few rows have two, and then all the others need only see that they have none.
+#[inline(never)]
+fn lower_of(x: Refusal, y: Refusal) -> Refusal
+    ensures { number_of result ≡ worse (number_of x) (number_of y) }
+{
+    if y.number() < x.number() {
+        return y;
+    }
+    x
+}
+
+// The same where there may be none.
 fn lower(a: Option<Refusal>, b: Option<Refusal>) -> Option<Refusal>
     ensures { number_if result ≡ worse (number_if a) (number_if b) }
 {
@@ -34,10 +46,7 @@ fn lower(a: Option<Refusal>, b: Option<Refusal>) -> Option<Refusal>
     let Some(y) = b else {
         return a;
     };
-    if y.number() < x.number() {
-        return b;
-    }
-    a
+    Some(lower_of(x, y))
 }
 
 // What is wrong with a text.
@@ -75,10 +84,22 @@ fn row_wrong(rows: &[u32], texts: &[u8], k: usize) -> Option<Refusal>
     requires { 5 * k + 4 < length rows.now }
     ensures { number_if result ≡ row_wrong rows.now texts.now k }
 {
-    lower(
-        text_wrong(texts, cell(rows, k, 1), cell(rows, k, 2)),
-        value_wrong(rows, texts, k),
-    )
+    let value = value_wrong(rows, texts, k);
+    let Some(key) = text_wrong(texts, cell(rows, k, 1), cell(rows, k, 2)) else {
+        return value;
+    };
+    lower(Some(key), value)
+}
+
+// What was wrong before row k, or is wrong with it: nearly always nothing, so that this is asked first.
+fn with_row(wrong: Option<Refusal>, rows: &[u32], texts: &[u8], k: usize) -> Option<Refusal>
+    requires { 5 * k + 4 < length rows.now }
+    ensures { number_if result ≡ worse (number_if wrong) (row_wrong rows.now texts.now k) }
+{
+    let Some(own) = row_wrong(rows, texts, k) else {
+        return wrong;
+    };
+    lower(wrong, Some(own))
 }
 
 // How many bytes the value of row k takes, which is no map.
@@ -109,7 +130,7 @@ pub fn judge_map(rows: &[u32], texts: &[u8], i: usize, count: usize, depth: usiz
                 bytes: 0,
             };
         }
-        wrong = lower(wrong, row_wrong(rows, texts, k));
+        wrong = with_row(wrong, rows, texts, k);
         let key = bytes + 2 + cell(rows, k, 2);
         if cell(rows, k, 0) == 2 {
             if depth == 0 {

@@ -47,7 +47,8 @@ pub fn skip_rows(rows: &[u32], i: usize, count: usize, depth: usize) -> usize
     ensures { (result ≡ (map_at rows.now [] depth i count).next) × (i ≤ result) × (0 < count → 5 * i + 4 < length rows.now → i < result) }
 {
     let mut k = i;
-    for _ in 0..count {
+    // counted down: one number is kept over the inner call, and most maps have few entries
+    for _ in (0..count).rev() {
         if rows.len() / 5 <= k {
             return k;
         }

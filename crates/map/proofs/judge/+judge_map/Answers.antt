@@ -1,3 +1,4 @@
+use mathlib.Core.Path.{refl}
 use Prim.Native.Nat.{◌-◌, ◌<◌}
 use native.Mathlib.Nat.{sub-zero}
 use native.Mathlib.Omega.{arith}
@@ -19,16 +20,16 @@ loop-preserved t c =
     (elim c.if-cell-eq2.branch [
       | then-cell-eq2+then-depth-eq0 w ↦
           rw (w.k-is, w.bytes-is, w.wrong-is)
-          (judging_deep c.loop.invariant more c.if-rows-k.false c.cell.ensures.0 c.cell-in-loop.ensures.0 c.row_wrong.ensures c.lower-wrong.ensures
-          w.if-cell-eq2.true w.if-depth-eq0.true w.lower-wrong-then-depth-eq0.ensures)
+          (judging_deep c.loop.invariant more c.if-rows-k.false c.cell.ensures.0 c.cell-in-loop.ensures.0 refl c.with_row-wrong.ensures
+          w.if-cell-eq2.true w.if-depth-eq0.true w.lower-wrong.ensures)
       | then-cell-eq2+else-depth-eq0 w ↦
           rw (w.k-is, w.bytes-is, w.wrong-is)
-          (judging_nested c.loop.invariant more c.if-rows-k.false c.cell.ensures.0 c.cell-in-loop.ensures.0 c.row_wrong.ensures c.lower-wrong.ensures w.if-cell-eq2.true
+          (judging_nested c.loop.invariant more c.if-rows-k.false c.cell.ensures.0 c.cell-in-loop.ensures.0 refl c.with_row-wrong.ensures w.if-cell-eq2.true
           w.if-depth-eq0.false w.cell-else-depth-eq0.ensures.0 w.judge_map-inner.ensures.0 w.judge_map-inner.ensures.1 w.judge_map-inner.ensures.2
           w.lower-wrong-else-depth-eq0.ensures w.capped-bytes.ensures.0 w.capped-bytes.ensures.1)
       | else-cell-eq2 w ↦
           rw (w.k-is, w.bytes-is, w.wrong-is)
-          (judging_plain c.loop.invariant more c.if-rows-k.false c.cell.ensures.0 c.cell-in-loop.ensures.0 c.row_wrong.ensures c.lower-wrong.ensures
+          (judging_plain c.loop.invariant more c.if-rows-k.false c.cell.ensures.0 c.cell-in-loop.ensures.0 refl c.with_row-wrong.ensures
           w.if-cell-eq2.false w.plain_size.ensures.1 w.capped-bytes-else-cell-eq2.ensures.0 w.capped-bytes-else-cell-eq2.ensures.1)
     ])
 

@@ -1,4 +1,3 @@
-use Prim.Native.Nat.{◌-◌}
 use Rattle.map.proofs.KeyLaws.{Skipping}
 use Rattle.map.proofs.keys.+skip_rows.Given as goal
 
@@ -6,4 +5,4 @@ abbrev pub decreases-skip_rows : goal.decreases-skip_rows
 decreases-skip_rows l = l.depth
 
 abbrev pub invariant-loop : goal.invariant-loop
-invariant-loop l = Skipping l.rows l.depth l.i l.count l.k (l.count - l.counter)
+invariant-loop l = Skipping l.rows l.depth l.i l.count l.k l.counter
